@@ -1,0 +1,59 @@
+-- A fresh directory is proper, comes back from its words, and its words are sound.
+-- Assumes nothing.
+use Prim.Native.Nat.{ℕ, zero, suc, _+_, _*_, _^_, _≤_, _<_}
+use mathlib.Core.Path.{_≡_, refl, sym, ap, _∙_}
+use mathlib.Core.Bool.{Bool, true, false, not, _&&_, _||_}
+use mathlib.Core.List.{List, [], _∷_}
+use native.Mathlib.Omega.{arith}
+use native.Mathlib.Numerals.{add-one}
+use lib.Dec.{eqb, leb, ltb}
+use lib.ListN.{length, getD}
+use borrow.Author.Tests.{eq-eqb, ne-eqb, le-ltb, lt-ltb, le-leb, eqb-true}
+use Rattle.meaning.specs.Base.{if_then_else_, every, tally, one, walk}
+use Rattle.meaning.specs.Neighbours.{NONE, has, behind, ahead, Nodup}
+use Rattle.meaning.specs.Layout.{Settings, isHeld, isList, isSplit, entriesOf, bitsFrom, bitsOf, lengthFor, leastCapacity, settingsRefusal}
+use Rattle.meaning.specs.Mem.{Mem, word, words, decode, headTail, settingsTop, empty, fresh, held}
+use Rattle.meaning.specs.Places.{Family, Fine, Holds, top, head, tail, bucket, cell, page, list, slot, prev, next, chain, mark, spare}
+use Rattle.meaning.specs.Proper.{Indexed, Ordered, Slotted, upTo, Proper}
+use Rattle.meaning.specs.Rules.{E, listIn, on, count, ruleA, word6Fits, ruleB, isFree, entryRight, ruleC, keepsTo, listRight, clockRight, endNone, ruleD, pageNew, ruleE, slotRight, ruleF, chainRight, chained, ruleG, arcSizes, sizesRight, ruleH, broken, sound}
+use Rattle.meaning.proofs.Lists.{no-true}
+use Rattle.meaning.proofs.Numbers.{by-test}
+use Rattle.meaning.proofs.Trip.{words-hold, decode-words}
+
+none-held : (n : ℕ) → tally n (λ i. false) ≡ 0
+unfolding tally one
+none-held zero = refl
+none-held (suc n) = omega (arith, none-held n)
+
+module _ (t : ℕ → ℕ) (few : t 2 ≤ 1024) (bits : t 3 ≤ 32) (top : (a : ℕ) → 7 ≤ a → t a ≡ 0) where
+  none : {key : ℕ → ℕ} → Family (t 2) (λ l. []) key
+  unfolding has Nodup
+  none = record { once = λ l. tt; member = λ l i h. no-true h }
+
+  pub empty-proper : Proper (empty t)
+  unfolding empty has isHeld held
+  empty-proper = record {
+    indexed = record {
+      fine = record { few = few; bits = bits; linked = none; chains = none; four = λ j i h. no-true h; used = λ b i h. no-true h; apart = λ i h z. absurd (z refl) };
+      canonical = record { tops = top; pages = λ i h. refl; lists = λ i h. refl; slots = λ i h. refl; marks = λ i h. refl };
+      hung = λ i z. absurd (z refl);
+      free = λ i z. (refl, refl);
+      ghost = λ i z. refl;
+    };
+    ordered = record { listed = λ i z. absurd (z refl); idle = λ i z. refl };
+    slotted = record {
+      at = λ s. 0;
+      there = λ s h. no-true (sym (le-ltb s 0 (omega arith)) ∙ ap (λ (n : ℕ). ltb s n) (sym (none-held (t 2))) ∙ h);
+      back = λ i h. no-true h;
+    };
+  }
+
+bits-small : (n k E : ℕ) → bitsFrom n k E ≤ n + k
+unfolding bitsFrom
+bits-small zero k E = omega arith
+bits-small (suc n) k E = by-test (leb E (2 ^ k)) (λ t. simp t (omega arith)) (λ t. simp t (omega (arith, bits-small n (suc k) E)))
+
+pub fresh-proper : (s : Settings) → entriesOf (s .policy) (s .C) (s .second) ≤ 1024 → Proper (fresh s)
+unfolding fresh settingsTop bitsOf
+fresh-proper s few = empty-proper (settingsTop s) few (omega (arith, bits-small 10 0 (entriesOf (s .policy) (s .C) (s .second))))
+    (λ a h. simp (ne-eqb a 0 (omega arith), ne-eqb a 1 (omega arith), ne-eqb a 2 (omega arith), ne-eqb a 3 (omega arith), ne-eqb a 4 (omega arith), ne-eqb a 5 (omega arith)))

@@ -1,0 +1,10 @@
+pub mod Lists
+pub mod Numbers
+pub mod Families
+pub mod Chained
+pub mod Unique
+pub mod Trip
+pub mod Fine
+pub mod Fresh
+pub mod Injective
+pub mod Rows

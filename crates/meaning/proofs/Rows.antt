@@ -1,0 +1,204 @@
+-- Document 01, "Bench sheet": the rows marked *, rows that tell its slips apart, and the figures that it names, as one statement over a list of rows.
+-- Assumes nothing.
+use Prim.Native.Nat.{ℕ, zero, suc, _+_}
+use mathlib.Core.Bool.{Bool, true, false, not, _&&_, _||_}
+use mathlib.Core.List.{List, [], _∷_, _++_, map}
+use lib.ListN.{length, replicate}
+use lib.Dec.{T, eqb}
+use Rattle.meaning.specs.Base.{if_then_else_, all, same}
+use Rattle.meaning.specs.Neighbours.{NONE}
+use Rattle.meaning.specs.Layout.{Settings, bucketOf, lengthOf}
+use Rattle.meaning.specs.Mem.{word, words, decode}
+use Rattle.meaning.specs.Room.{Kind, hit, loaded, swapped, Reply}
+use Rattle.meaning.specs.Rules.{sound}
+use Rattle.meaning.specs.Calls.{Said, refused, gave, Outcome, formed, refusalOf, requested, reported, replayed, Counts, curved, CurveOutcome}
+use Rattle.meaning.specs.Text.{openText, textOf, Reading, unread, accepted, readText}
+
+-- A line of a row's script: pages asked for, or what is then seen.
+pub data Line : Type 0 where
+  ask : List ℕ → Line
+  -- the last answers, oldest first
+  answers : List Reply → Line
+  -- list j, front first
+  pages : ℕ → List ℕ → Line
+  -- word i
+  stands : ℕ → ℕ → Line
+  -- hits, loads and swaps of all that was asked, replayed from the start
+  counts : ℕ → ℕ → ℕ → Line
+
+pub data Row : Type 0 where
+  directory : Settings → List Line → Row
+  curveOf : ℕ → List ℕ → List ℕ → List ℕ → Row
+  -- the refusal of settings, 0 for none
+  settings : Settings → ℕ → Row
+  lengthIs : Settings → ℕ → Row
+  bucketsAre : ℕ → List ℕ → List ℕ → Row
+  -- a text, the room for its pages, the refusal and the line
+  wrongText : List ℕ → ℕ → ℕ → ℕ → Row
+  -- a text, its settings and its pages
+  exampleText : List ℕ → ℕ → ℕ → ℕ → ℕ → List ℕ → Row
+
+abbrev hitIn : ℕ → Reply
+hitIn s = record { kind = hit; slot = s; out = NONE; cleared = 0 }
+
+abbrev loadedIn : ℕ → Reply
+loadedIn s = record { kind = loaded; slot = s; out = NONE; cleared = 0 }
+
+abbrev swappedIn : ℕ → ℕ → ℕ → Reply
+swappedIn s out n = record { kind = swapped; slot = s; out = out; cleared = n }
+
+abbrev dir : ℕ → ℕ → ℕ → ℕ → Settings
+dir p C f s = record { policy = p; C = C; first = f; second = s }
+
+abbrev pub rows : List Row
+rows =
+    -- S1
+    directory (dir 1 2 0 0)
+    (ask (7 ∷ 9 ∷ 7 ∷ 5 ∷ [])
+    ∷ answers (loadedIn 0 ∷ loadedIn 1 ∷ hitIn 0 ∷ swappedIn 1 9 0 ∷ []) ∷ pages 1 (5 ∷ 7 ∷ []) ∷ [])
+    -- S2
+    ∷ curveOf 5 (1 ∷ 2 ∷ 3 ∷ 4 ∷ 1 ∷ 2 ∷ 5 ∷ 1 ∷ 2 ∷ 3 ∷ 4 ∷ 5 ∷ []) (0 ∷ 0 ∷ 2 ∷ 4 ∷ 7 ∷ []) (5 ∷ 4 ∷ 3 ∷ 2 ∷ 1 ∷ [])
+    -- S3
+    ∷ directory (dir 2 3 0 0) (ask (1 ∷ 2 ∷ 3 ∷ 1 ∷ 4 ∷ 5 ∷ []) ∷ answers (swappedIn 1 2 1 ∷ swappedIn 2 3 0 ∷ []) ∷ stands 6 0 ∷ [])
+    -- S4
+    ∷ directory (dir 2 2 0 0) (ask (1 ∷ 2 ∷ 1 ∷ 2 ∷ 3 ∷ []) ∷ answers (swappedIn 0 1 2 ∷ []) ∷ stands 6 1 ∷ [])
+    -- S5
+    ∷ directory (dir 3 3 1 0) (ask (1 ∷ 2 ∷ 1 ∷ 2 ∷ 3 ∷ 4 ∷ []) ∷ answers (swappedIn 0 1 0 ∷ []) ∷ pages 1 (4 ∷ 3 ∷ []) ∷ pages 2 (2 ∷ []) ∷ [])
+    -- S6
+    ∷ directory (dir 4 3 1 2)
+    (ask (1 ∷ 2 ∷ 3 ∷ 4 ∷ 1 ∷ 4 ∷ 5 ∷ 6 ∷ 4 ∷ 7 ∷ []) ∷ counts 1 3 6 ∷ pages 1 (7 ∷ 6 ∷ []) ∷ pages 2 (4 ∷ []) ∷ pages 3 (5 ∷ 3 ∷ []) ∷ [])
+    -- S7
+    ∷ directory (dir 5 2 0 0)
+    (ask (1 ∷ 2 ∷ 1 ∷ 3 ∷ 2 ∷ []) ∷ pages 1 (3 ∷ []) ∷ pages 2 (2 ∷ []) ∷ pages 3 [] ∷ pages 4 (1 ∷ []) ∷ stands 6 1
+    ∷ ask (1 ∷ []) ∷ pages 1 [] ∷ pages 2 (1 ∷ 2 ∷ []) ∷ pages 3 (3 ∷ []) ∷ pages 4 [] ∷ stands 6 0
+    ∷ ask (4 ∷ []) ∷ pages 1 (4 ∷ []) ∷ pages 2 (1 ∷ []) ∷ pages 3 (3 ∷ []) ∷ pages 4 (2 ∷ [])
+    ∷ ask (5 ∷ []) ∷ pages 1 (5 ∷ []) ∷ pages 2 (1 ∷ []) ∷ pages 3 (4 ∷ []) ∷ pages 4 (2 ∷ []) ∷ [])
+    -- S8
+    ∷ directory (dir 5 2 0 0) (ask (1 ∷ 2 ∷ 3 ∷ []) ∷ pages 1 (3 ∷ 2 ∷ []) ∷ pages 2 [] ∷ pages 3 [] ∷ pages 4 [] ∷ [])
+    -- a tie on p with the page in B2 goes to T1
+    ∷ directory (dir 5 3 0 0)
+    (ask (6 ∷ 6 ∷ 7 ∷ 8 ∷ 5 ∷ 7 ∷ 8 ∷ 6 ∷ []) ∷ answers (swappedIn 1 5 0 ∷ []) ∷ pages 1 [] ∷ pages 2 (6 ∷ 8 ∷ 7 ∷ []) ∷ pages 3 (5 ∷ []) ∷ pages 4 [] ∷ stands 6 1 ∷ [])
+    -- p grows by B2/B1 = 2
+    ∷ directory (dir 5 3 0 0)
+    (ask (2 ∷ 2 ∷ 6 ∷ 8 ∷ 5 ∷ 5 ∷ 6 ∷ 3 ∷ 1 ∷ 8 ∷ []) ∷ answers (swappedIn 0 6 0 ∷ [])
+    ∷ pages 1 (1 ∷ 3 ∷ []) ∷ pages 2 (8 ∷ []) ∷ pages 3 [] ∷ pages 4 (6 ∷ 5 ∷ 2 ∷ []) ∷ stands 6 3 ∷ [])
+    -- all four total 2C: the back of B2 goes
+    ∷ directory (dir 5 1 0 0) (ask (1 ∷ 1 ∷ 2 ∷ 2 ∷ 3 ∷ []) ∷ pages 1 (3 ∷ []) ∷ pages 2 [] ∷ pages 3 [] ∷ pages 4 (2 ∷ []) ∷ [])
+    -- a hit in A1in moves nothing
+    ∷ directory (dir 4 2 1 1) (ask (1 ∷ 2 ∷ 1 ∷ []) ∷ answers (hitIn 0 ∷ []) ∷ pages 1 (2 ∷ 1 ∷ []) ∷ [])
+    -- pages 0 and 5 share bucket 0 of four: the new entry is the front of the chain, and the first is behind it
+    ∷ directory (dir 1 3 0 0) (ask (0 ∷ 5 ∷ []) ∷ stands 40 1 ∷ stands 21 4294967295 ∷ stands 29 0 ∷ [])
+    -- S9
+    ∷ directory (dir 1 2 0 0) (ask [] ∷ counts 0 0 0 ∷ [])
+    ∷ curveOf 3 [] (0 ∷ 0 ∷ 0 ∷ []) (4294967295 ∷ 4294967295 ∷ 4294967295 ∷ [])
+    -- S10
+    ∷ directory (dir 2 1 0 0) (ask (8 ∷ 8 ∷ 9 ∷ []) ∷ answers (swappedIn 0 8 1 ∷ []) ∷ [])
+    -- S11
+    ∷ settings (dir 1 512 0 0) 0 ∷ settings (dir 1 513 0 0) 2 ∷ settings (dir 3 1 0 0) 2
+    -- S12
+    ∷ wrongText [] 4 10 1
+    -- the whole example, with room for its pages and without; a byte after its end
+    ∷ exampleText
+    (112 ∷ 111 ∷ 108 ∷ 105 ∷ 99 ∷ 121 ∷ 61 ∷ 49 ∷ 10 ∷ 99 ∷ 97 ∷ 112 ∷ 97 ∷ 99 ∷ 105 ∷ 116 ∷ 121 ∷ 61 ∷ 50 ∷ 10 ∷ 102 ∷ 105 ∷ 114 ∷ 115 ∷ 116 ∷ 61 ∷ 48 ∷ 10 ∷ 115 ∷ 101 ∷ 99 ∷ 111 ∷ 110 ∷ 100 ∷ 61 ∷ 48 ∷ 10 ∷ 99 ∷ 111 ∷ 117 ∷ 110 ∷ 116 ∷ 61 ∷ 52 ∷ 10 ∷ 112 ∷ 97 ∷ 103 ∷ 101 ∷ 61 ∷ 55 ∷ 10 ∷ 112 ∷ 97 ∷ 103 ∷ 101 ∷ 61 ∷ 57 ∷ 10 ∷ 112 ∷ 97 ∷ 103 ∷ 101 ∷ 61 ∷ 55 ∷ 10 ∷ 112 ∷ 97 ∷ 103 ∷ 101 ∷ 61 ∷ 53 ∷ 10 ∷ [])
+    1 2 0 0 (7 ∷ 9 ∷ 7 ∷ 5 ∷ [])
+    -- figures: 25 words and 9,232 words, buckets 0 4 1 6
+    ∷ lengthIs (dir 1 1 0 0) 25 ∷ lengthIs (dir 5 512 0 0) 9232
+    ∷ bucketsAre 3 (0 ∷ 1 ∷ 2 ∷ 3 ∷ []) (0 ∷ 4 ∷ 1 ∷ 6 ∷ [])
+    ∷ []
+
+-- ── When a row holds ──
+
+-- A directory's first words, its words so far, the pages asked for so far and the answers so far, both latest first, and whether every directory on the way was sound and came back from decode.
+pub record State : Type 0 where
+  pub start : List ℕ
+  pub left : List ℕ
+  pub asked : List ℕ
+  pub said : List (Said Reply)
+  pub right : Bool
+
+abbrev pub kindNo : Kind → ℕ
+kindNo hit = 1
+kindNo loaded = 2
+kindNo swapped = 3
+
+abbrev pub sameReply : Reply → Said Reply → Bool
+sameReply a (refused n) = false
+sameReply a (gave b) = eqb (kindNo (a .kind)) (kindNo (b .kind)) && eqb (a .slot) (b .slot) && eqb (a .out) (b .out) && eqb (a .cleared) (b .cleared)
+
+-- the replies that were expected, against the latest
+abbrev pub latest : List Reply → List (Said Reply) → Bool
+latest [] said = true
+latest (r ∷ rs) [] = false
+latest (r ∷ rs) (s ∷ ss) = sameReply r s && latest rs ss
+
+abbrev pub turned : {A : Type 0} → List A → List A → List A
+turned [] acc = acc
+turned (r ∷ rs) acc = turned rs (r ∷ acc)
+
+-- sound, and given back by decode
+abbrev pub wellKept : List ℕ → Bool
+wellKept ws = sound ws && same (words (decode ws)) ws
+
+abbrev pub asking : State → List ℕ → State
+asking st [] = st
+asking st (p ∷ ps) =
+    let o = requested (st .left) p in
+    let now : State = record { start = st .start; left = o .left; asked = p ∷ st .asked; said = o .said ∷ st .said; right = st .right && wellKept (o .left) } in
+    asking now ps
+
+abbrev pub gaveCounts : ℕ → ℕ → ℕ → Said Counts → Bool
+gaveCounts h l s (refused n) = false
+gaveCounts h l s (gave c) = eqb (c .hits) h && eqb (c .loads) l && eqb (c .swaps) s
+
+-- a report gives these pages, and leaves the last word of the buffer
+abbrev pub reports : List ℕ → ℕ → List ℕ → Bool
+reports ws j ps =
+    let buffer : List ℕ = replicate (length ps + 1) 77 in
+    same (reported ws j buffer .left) (ps ++ (77 ∷ []))
+
+abbrev pub script : State → List Line → Bool
+script st [] = st .right
+script st (ask ps ∷ ls) = script (asking st ps) ls
+script st (answers rs ∷ ls) = latest (turned rs []) (st .said) && script st ls
+script st (pages j ps ∷ ls) = reports (st .left) j ps && script st ls
+script st (stands i v ∷ ls) = eqb (word (st .left) i) v && script st ls
+script st (counts h l s ∷ ls) =
+    let o = replayed (st .start) (turned (st .asked) []) in
+    gaveCounts h l s (o .said) && same (o .left) (st .left) && script st ls
+
+abbrev pub curveHolds : ℕ → List ℕ → List ℕ → List ℕ → Bool
+curveHolds m trace result work =
+    let c = curved m trace (replicate (m + 1) 9) (replicate (m + 1) 9) in
+    same (c .result) (result ++ (9 ∷ [])) && same (c .work) (work ++ (9 ∷ []))
+
+abbrev pub isWrong : Reading → ℕ → ℕ → Bool
+isWrong (unread n l) n′ l′ = eqb n n′ && eqb l l′
+isWrong (accepted p c f g ps) n′ l′ = false
+
+abbrev pub isRead : Reading → List ℕ → List ℕ → Bool
+isRead (unread n l) four trace = false
+isRead (accepted p c f g ps) four trace = same (p ∷ c ∷ f ∷ g ∷ []) four && same ps trace
+
+-- it is the writer's, it is read with just enough room, and one page less or one byte more is refused
+abbrev pub textHolds : List ℕ → ℕ → ℕ → ℕ → ℕ → List ℕ → Bool
+textHolds text p c f g trace =
+    same (textOf p c f g trace) text
+    && isRead (readText text (length trace)) (p ∷ c ∷ f ∷ g ∷ []) trace
+    && isWrong (readText text 3) 8 0
+    && isWrong (readText (text ++ (10 ∷ [])) (length trace)) 10 (length trace + 6)
+
+abbrev pub holds : Row → Bool
+holds (directory s ls) =
+    let start = formed s (replicate (lengthOf s) 77) .left in
+    script (record { start = start; left = start; asked = []; said = []; right = wellKept start }) ls
+holds (curveOf m trace result work) = curveHolds m trace result work
+holds (settings s n) = eqb (refusalOf s) n
+holds (lengthIs s n) = eqb (lengthOf s) n
+holds (bucketsAre k ps bs) = same (map (bucketOf k) ps) bs
+holds (wrongText text room n l) = isWrong (readText text room) n l
+holds (exampleText text p c f g trace) = textHolds text p c f g trace
+
+-- Every row holds.
+pub bench : T (all holds rows)
+unfolding openText
+bench = tt

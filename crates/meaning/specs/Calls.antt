@@ -1,0 +1,193 @@
+-- Document 01, "Calls and their refusals": what each call on words says, and the lent words afterwards, on every input. Refusals come first and in document 01's order.
+use Prim.Native.Nat.{ℕ, zero, suc, _+_}
+use mathlib.Core.Bool.{Bool, true, false, not, _&&_, _||_}
+use mathlib.Core.List.{List, [], _∷_, _++_, map}
+use lib.ListN.{length, drop}
+use lib.Dec.{eqb, leb, ltb}
+use Rattle.meaning.specs.Base.{if_then_else_, first, series, pad}
+use Rattle.meaning.specs.Neighbours.{NONE, has}
+use Rattle.meaning.specs.Layout.{Settings, longest, mostCapacity, isClock, isList, isHeld, lengthOf, settingsRefusal}
+use Rattle.meaning.specs.Mem.{Mem, words, decode, fresh, entryOf, listOn, held, sits}
+use Rattle.meaning.specs.Room.{Kind, hit, loaded, swapped, Reply, Done}
+use Rattle.meaning.specs.Policies.{request}
+use Rattle.meaning.specs.Rules.{openRules, sound}
+
+-- A call refuses with a number, or gives its answer.
+pub data Said (A : Type 0) : Type 0 where
+  refused : ℕ → Said A
+  gave : A → Said A
+
+-- What a call said, and the lent words that it left.
+pub record Outcome (A : Type 0) : Type 0 where
+  pub said : Said A
+  pub left : List ℕ
+
+-- A refusal returns its number, and no lent word is changed.
+unfoldable pub refuse : {A : Type 0} → ℕ → List ℕ → Outcome A
+refuse n ws = record { said = refused n; left = ws }
+
+-- The front of a buffer is overwritten; words past that stay.
+unfoldable pub over : List ℕ → List ℕ → List ℕ
+over front buffer = front ++ drop (length front) buffer
+
+-- ── Form: 1, 2, 3, 4 ──
+
+-- The refusal of settings, 0 for none.
+unfoldable pub refusalOf : Settings → ℕ
+refusalOf s = settingsRefusal (s .policy) (s .C) (s .first) (s .second)
+
+-- 4: the length of the lent words is not the exact one. Writes a fresh directory over whatever was there.
+unfoldable pub formed : Settings → List ℕ → Outcome (Unit {0})
+formed s ws =
+    if not (eqb (refusalOf s) 0) then refuse (refusalOf s) ws else
+    if not (eqb (length ws) (lengthOf s)) then refuse 4 ws else
+    record { said = gave tt; left = words (fresh s) }
+
+-- The length that form asks: 1, 2, 3.
+unfoldable pub wordsFor : Settings → Said ℕ
+wordsFor s = if not (eqb (refusalOf s) 0) then refused (refusalOf s) else gave (lengthOf s)
+
+-- ── Audit: yes exactly if sound; it has no refusal ──
+
+unfoldable pub audited : List ℕ → Bool
+audited ws = sound ws
+
+-- ── Request: 5, 6 ──
+
+-- A request on the words of a directory: its answer, and the words after it.
+unfoldable pub answered : List ℕ → ℕ → Outcome Reply
+answered ws page =
+    let d = request (decode ws) page in
+    record { said = gave (d .reply); left = words (d .mem) }
+
+-- What any call checks that is lent words and a page, and then does: 5, the lent words are not a sound directory; 6, a page asked for is NONE.
+unfoldable pub onPage : {A : Type 0} → List ℕ → ℕ → A → (ℕ → A) → A
+onPage ws page answer refusal =
+    if not (sound ws) then refusal 5 else
+    if eqb page NONE then refusal 6 else answer
+
+unfoldable pub requested : List ℕ → ℕ → Outcome Reply
+requested ws page = onPage ws page (answered ws page) (λ n. refuse n ws)
+
+-- The slot of a request's answer: a caller that wants only the slot meets every refusal by name.
+abbrev pub slotOf : Said Reply → Said ℕ
+slotOf (refused n) = refused n
+slotOf (gave r) = gave (r .slot)
+
+unfoldable pub slotFor : List ℕ → ℕ → Outcome ℕ
+slotFor ws page = record { said = slotOf (requested ws page .said); left = requested ws page .left }
+
+-- ── Look: 5, 6. Changes nothing ──
+
+-- Absent, held with the slot, or remembered (on a ghost list).
+pub data Sight : Type 0 where
+  absent remembered : Sight
+  heldIn : ℕ → Sight
+
+unfoldable pub sight : Mem → ℕ → Sight
+sight m page =
+    if isHeld (listOn m page) then heldIn (m .slots (entryOf m page)) else
+    if eqb (listOn m page) 0 then absent else remembered
+
+unfoldable pub looked : List ℕ → ℕ → Said Sight
+looked ws page = onPage ws page (gave (sight (decode ws) page)) refused
+
+-- ── Report: 5, 9, 8 ──
+
+-- The page in slot s.
+unfoldable pub pageInSlot : Mem → ℕ → ℕ
+pageInSlot m s = m .pages (first (sits m s) 0 (m .tops 2))
+
+-- The pages of list j, front first. For CLOCK, list 1 is the held pages in slot order.
+unfoldable pub pagesOn : Mem → ℕ → List ℕ
+pagesOn m j = if isClock (m .tops 0) then series (pageInSlot m) (held m) 0 else map (m .pages) (m .order j)
+
+-- 9: the list number is none of the policy's. 8: a buffer shorter than the list. Writes the list's pages and answers how many; words past that stay.
+unfoldable pub reported : List ℕ → ℕ → List ℕ → Outcome ℕ
+reported ws j buffer =
+    let m = decode ws in
+    if not (sound ws) then refuse 5 buffer else
+    if not (isList (m .tops 0) j) then refuse 9 buffer else
+    if ltb (length buffer) (length (pagesOn m j)) then refuse 8 buffer else
+    record { said = gave (length (pagesOn m j)); left = over (pagesOn m j) buffer }
+
+-- ── Replay: 5, 7, 6 ──
+
+-- The counts of hits, loads and swaps.
+pub record Counts : Type 0 where
+  pub hits : ℕ
+  pub loads : ℕ
+  pub swaps : ℕ
+
+abbrev pub none : Counts
+none = record { hits = 0; loads = 0; swaps = 0 }
+
+-- One more answer of a kind.
+unfoldable pub counted : Counts → Kind → Counts
+counted c hit = record { hits = c .hits + 1; loads = c .loads; swaps = c .swaps }
+counted c loaded = record { hits = c .hits; loads = c .loads + 1; swaps = c .swaps }
+counted c swapped = record { hits = c .hits; loads = c .loads; swaps = c .swaps + 1 }
+
+pub record Ran : Type 0 where
+  pub counts : Counts
+  pub left : List ℕ
+
+-- The requests of a trace in turn, on the words that each leaves, after so many counted.
+unfoldable pub run : Counts → List ℕ → List ℕ → Ran
+run c ws [] = record { counts = c; left = ws }
+run c ws (p ∷ ps) = let d = request (decode ws) p in run (counted c (d .reply .kind)) (words (d .mem)) ps
+
+unfoldable pub ran : Ran → Outcome Counts
+ran r = record { said = gave (r .counts); left = r .left }
+
+-- 7: a trace over 65,535 pages. All pages are checked before the first request.
+unfoldable pub replayed : List ℕ → List ℕ → Outcome Counts
+replayed ws trace =
+    if not (sound ws) then refuse 5 ws else
+    if ltb longest (length trace) then refuse 7 ws else
+    if has trace NONE then refuse 6 ws else
+    ran (run none ws trace)
+
+-- ── Curve: 2, 7, 6, 8 ──
+
+-- What a fresh LRU directory of capacity c does with a trace.
+unfoldable pub lruRun : ℕ → List ℕ → Ran
+lruRun c trace = run none (words (fresh (record { policy = 1; C = c; first = 0; second = 0 }))) trace
+
+-- The hits of LRU at capacity c.
+unfoldable pub lruHits : List ℕ → ℕ → ℕ
+lruHits trace c = lruRun c trace .counts .hits
+
+-- The LRU list at capacity m, front first.
+unfoldable pub lruPages : List ℕ → ℕ → List ℕ
+lruPages trace m = pagesOn (decode (lruRun m trace .left)) 1
+
+-- What the curve said, and its two buffers afterwards.
+pub record CurveOutcome : Type 0 where
+  pub said : Said (Unit {0})
+  pub result : List ℕ
+  pub work : List ℕ
+
+-- 2: m is not 1 to 512. 7: trace over 65,535 pages. 6: a page is NONE. 8: result or work under m words. 0: none of these.
+unfoldable pub curveRefusal : ℕ → List ℕ → ℕ → ℕ → ℕ
+curveRefusal m trace room places =
+    if not (leb 1 m && leb m mostCapacity) then 2 else
+    if ltb longest (length trace) then 7 else
+    if has trace NONE then 6 else
+    if ltb room m || ltb places m then 8 else 0
+
+-- Result word c-1 holds the LRU hits at capacity c, for c from 1 to m. Work's first m words hold the LRU list at capacity m, then NONE. Words past m stay in both.
+unfoldable pub curved : ℕ → List ℕ → List ℕ → List ℕ → CurveOutcome
+curved m trace result work =
+    let r = curveRefusal m trace (length result) (length work) in
+    if not (eqb r 0) then record { said = refused r; result = result; work = work } else
+    record {
+      said = gave tt;
+      result = over (series (lruHits trace) m 1) result;
+      work = over (pad NONE m (lruPages trace m)) work;
+    }
+
+-- For a proof that computes: `unfolding openCalls` opens every definition of this file and of the files below it.
+unfoldable pub openCalls : Unit {0}
+unfolding openRules refuse over refusalOf formed wordsFor audited answered onPage requested slotFor sight looked pageInSlot pagesOn reported counted run ran replayed lruRun lruHits lruPages curveRefusal curved
+openCalls = tt
