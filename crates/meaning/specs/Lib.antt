@@ -18,4 +18,5 @@ pub mod Shape
 pub mod Proper
 pub mod Vacant
 pub mod Ram
+pub mod Whole
 pub mod Kept
