@@ -1,0 +1,15 @@
+pub mod Vector
+pub mod Requests1
+pub mod Requests2
+pub mod Requests3
+pub mod Requests4
+pub mod Damages1
+pub mod Damages2
+pub mod Damages3
+pub mod Damages4
+pub mod Damages5
+pub mod Damages6
+pub mod Damages7
+pub mod Damages8
+pub mod Damages9
+pub mod Damages10
