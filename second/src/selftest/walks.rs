@@ -108,7 +108,7 @@ fn large_trace(
         settings.entries() + settings.entries() / 4 + 2,
         capacity == 511,
     );
-    let trace = trace_over(random, &pool, 2 * settings.entries());
+    let trace = trace_over(random, &pool, settings.entries() * 3 / 2);
     follow(tally, happenings, Directory::fresh(settings), &trace);
 }
 

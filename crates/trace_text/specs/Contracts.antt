@@ -1,0 +1,33 @@
+-- What the contracts of `trace_text` cite besides meaning's `Text` and `Answers`: what an answer of the inner functions says, and the two promises.
+use Prim.Native.Nat.{ℕ}
+use mathlib.Core.Path.{_≡_}
+use mathlib.Core.List.{List}
+use lib.ListN.{length, drop}
+use Rattle.meaning.specs.Text.{Took, wrong, right, Header, badHead, head, readText, readSaid, readLeft, wrote}
+use Rattle.meaning.specs.Answers.{readSays, writeSays}
+use Rattle.meaning.specs.declared.ReadText.{ReadText}
+use Rattle.meaning.specs.declared.Written.{Written}
+use Rattle.trace_text.specs.declared.Line.{Line}
+use Rattle.trace_text.specs.declared.Line.the-variants as lines
+use Rattle.trace_text.specs.declared.Head.{Head}
+use Rattle.trace_text.specs.declared.Head.the-variants as heads
+
+-- What a `Line` found in a text says.
+abbrev pub tookOf : List ℕ → Line → Took
+tookOf text (lines.Value v next) = right v (drop next text)
+tookOf text lines.Wrong = wrong
+
+-- What a `Head` found in a text says.
+abbrev pub headOf : List ℕ → Head → Header
+headOf text (heads.Right p c f g n next) = head p c f g n (drop next text)
+headOf text (heads.Wrong l) = badHead l
+
+-- What `read` promises: its answer, and the trace buffer afterwards.
+pub record ReadAs (text before : List ℕ) (r : ReadText) (after : List ℕ) : Type 0 where
+  pub answer : readSays r ≡ readSaid (readText text (length before))
+  pub memory : after ≡ readLeft (readText text (length before)) before
+
+-- What `write` promises: its answer, and the text buffer afterwards.
+pub record WrittenAs (p c f g : ℕ) (trace before : List ℕ) (r : Written) (after : List ℕ) : Type 0 where
+  pub answer : writeSays r ≡ wrote p c f g trace before .said
+  pub memory : after ≡ wrote p c f g trace before .left
