@@ -1,12 +1,12 @@
 //! Sound directories with single words changed, and the first rule that each change breaks.
 
 use crate::audit::first_broken_rule;
-use crate::calls::replay;
+use crate::codec::encode;
+use crate::model::Directory;
+use crate::policies::request;
 use crate::random::{page_pool, trace_over, Random};
 use crate::settings::{Settings, ENTRY_WORDS, HEADER_WORDS, NONE};
 use crate::view::header;
-
-use super::traces::fresh_words;
 
 /// Changes of each directory.
 const CHANGES: usize = 45;
@@ -111,9 +111,11 @@ fn reached(random: &mut Random, plan: &Plan) -> Vec<u32> {
         Settings::checked(policy, capacity, first, second).expect("settings that form accepts");
     let pool = page_pool(random, settings.entries() + 1, false);
     let trace = trace_over(random, &pool, requests);
-    let mut words = fresh_words(&settings);
-    replay(&mut words, &trace).expect("a replay over a sound directory");
-    words
+    let mut directory = Directory::fresh(settings);
+    for page in trace {
+        request(&mut directory, page);
+    }
+    encode(&directory)
 }
 
 /// Changes of a sound directory, of each first broken rule some.

@@ -1,0 +1,20 @@
+use Rattle.lists.proofs.Filling.{fresh-bare, fresh-within}
+use Rattle.lists.proofs.Steps.{ready-then, turns-then}
+use borrow.Author.Needs.{needs}
+use Rattle.lists.proofs.entries.occupy.Statement.{statement}
+use Rattle.lists.proofs.entries.occupy.Tie as tie
+
+set-slot-requires : tie.Need-set-slot-requires
+set-slot-requires c κs = search (ready-then, fresh-bare, fresh-within, needs)
+
+returns : tie.Need-returns
+returns c = search (turns-then, fresh-bare, fresh-within, needs)
+
+pub occupy-spec : {M : Type 1} → statement M
+occupy-spec =
+    tie.close
+    (tie.spec
+    (λ c κs. search needs)  -- hang-requires
+    set-slot-requires
+    (λ c. search needs)  -- same-length
+    returns)

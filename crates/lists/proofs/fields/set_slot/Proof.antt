@@ -1,0 +1,15 @@
+use Rattle.lists.proofs.Plain.{slot-turns}
+use borrow.Author.Needs.{needs}
+use Rattle.lists.proofs.fields.set_slot.Statement.{statement}
+use Rattle.lists.proofs.fields.set_slot.Tie as tie
+
+returns : tie.Need-returns
+returns c = slot-turns _ (cc)
+
+pub set-slot-spec : {M : Type 1} → statement M
+set-slot-spec =
+    tie.close
+    (tie.spec
+    (λ c κs. search needs)  -- put-cell-requires
+    (λ c. search needs)  -- same-length
+    returns)
