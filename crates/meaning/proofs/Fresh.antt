@@ -48,7 +48,8 @@ module _ (t : ℕ → ℕ) (few : t 2 ≤ 1024) (bits : t 3 ≤ 32) (top : (a : 
     };
   }
 
-bits-small : (n k E : ℕ) → bitsFrom n k E ≤ n + k
+-- Index bits found in n steps from k on are at most n + k.
+pub bits-small : (n k E : ℕ) → bitsFrom n k E ≤ n + k
 unfolding bitsFrom
 bits-small zero k E = omega arith
 bits-small (suc n) k E = by-test (leb E (2 ^ k)) (λ t. simp t (omega arith)) (λ t. simp t (omega (arith, bits-small n (suc k) E)))

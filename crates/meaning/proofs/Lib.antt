@@ -6,5 +6,12 @@ pub mod Unique
 pub mod Trip
 pub mod Fine
 pub mod Fresh
+pub mod Tests
+pub mod Counted
+pub mod Walks
+pub mod Listed
+pub mod Read
+pub mod Accepted
+pub mod Back
 pub mod Injective
 pub mod Rows
