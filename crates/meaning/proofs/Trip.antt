@@ -150,7 +150,8 @@ unfolding has
 no-members [] h = refl
 no-members (x ∷ L) h = absurd (h x (simp (eqb-same x)))
 
-mem-eq : (a b : Mem) → a .tops ≡ b .tops → a .pages ≡ b .pages → a .lists ≡ b .lists → a .slots ≡ b .slots → a .marks ≡ b .marks → a .order ≡ b .order → a .chained ≡ b .chained → a ≡ b
+-- two directories are equal if they are field by field
+pub mem-eq : (a b : Mem) → a .tops ≡ b .tops → a .pages ≡ b .pages → a .lists ≡ b .lists → a .slots ≡ b .slots → a .marks ≡ b .marks → a .order ≡ b .order → a .chained ≡ b .chained → a ≡ b
 mem-eq a b t p l s k o c = λ i. record { tops = t i; pages = p i; lists = l i; slots = s i; marks = k i; order = o i; chained = c i }
 
 module _ (ws : List ℕ) (m : Mem) (R : Repr ws m) (K : Canonical m) where
