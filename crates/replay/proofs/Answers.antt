@@ -1,0 +1,114 @@
+-- Which answer `curve` owes: the refusal's number from the tests, in their order, and the promise from the number. Assumes nothing.
+use Prim.Native.Nat.{ℕ, zero, suc, _+_, _≤_, _<_}
+use mathlib.Core.Path.{_≡_, refl, sym, ap, _∙_}
+use mathlib.Core.Bool.{false, not}
+use mathlib.Core.List.{List, [], _∷_, _++_}
+use native.Mathlib.Omega.{arith}
+use borrow.Author.Tests.{lt-ltb, le-ltb, lt-leb, le-leb, ne-eqb}
+use lib.ListN.{length, drop, getD}
+use lib.Dec.{eqb}
+use Rattle.meaning.specs.Base.{if_then_else_, series, pad}
+use Rattle.meaning.specs.Neighbours.{NONE, has}
+use Rattle.meaning.specs.Ram.{Pages}
+use Rattle.meaning.specs.Calls.{refused, gave, over, CurveOutcome, curveRefusal, curved, lruHits, lruPages}
+use Rattle.meaning.specs.declared.Curved.the-variants.{Done, Refused}
+use Rattle.meaning.proofs.Lists.{split, no-true}
+use Rattle.replay.specs.Plain.{depth, pagesOf, hitsOf}
+use Rattle.replay.specs.Curve.{CurvedAs}
+use Rattle.replay.proofs.Plain.{has-depth}
+use Rattle.replay.proofs.Counts.{length-series, length-pad}
+use Rattle.replay.proofs.Projection.{hits-plain, pages-plain}
+
+-- words of 32 bits, none of them NONE, are pages
+pub all-pages : (t : List ℕ) → ((i : ℕ) → getD t i 0 < 4294967296) → has t NONE ≡ false → Pages t
+unfolding Pages has
+all-pages [] fits h = tt
+all-pages (p ∷ t) fits h = split NONE p
+    (λ z e. no-true (sym h ∙ simp e))
+    (λ z e. (omega (arith, fits 0, z), all-pages t (λ i. fits (suc i)) (sym (simp e) ∙ h)))
+
+-- and pages are not NONE
+pub no-none : (t : List ℕ) → Pages t → has t NONE ≡ false
+unfolding Pages has
+no-none [] ps = refl
+no-none (p ∷ t) ps = simp (ne-eqb NONE p (λ z. omega (arith, z, ps .0))) (no-none t (ps .1))
+
+series-same : (f g : ℕ → ℕ) (n c : ℕ) → ((k : ℕ) → c ≤ k → k < c + n → f k ≡ g k) → series f n c ≡ series g n c
+series-same f g zero c h = refl
+series-same f g (suc n) c h = λ j. h c (omega arith) (omega arith) j ∷ series-same f g n (suc c) (λ k a b. h k (omega arith) (omega arith)) j
+
+module _ (m : ℕ) (t r w : List ℕ) where
+  -- what the refusal's number makes of the call
+  abbrev pub outcome : ℕ → CurveOutcome
+  outcome n =
+      if not (eqb n 0) then record { said = refused n; result = r; work = w } else
+      record { said = gave tt; result = over (series (lruHits t) m 1) r; work = over (pad NONE m (lruPages t m)) w }
+
+  abbrev number : ℕ
+  number = curveRefusal m t (length r) (length w)
+
+  outcome-is : (n : ℕ) → number ≡ n → curved m t r w ≡ outcome n
+  unfolding curved
+  outcome-is n e = ap outcome e
+
+  -- a refusal changes nothing
+  refuses : (n : ℕ) → eqb n 0 ≡ false → number ≡ n → CurvedAs m t r w (Refused n) r w
+  refuses n z e =
+      let o : curved m t r w ≡ record { said = refused n; result = r; work = w } = outcome-is n e ∙ simp z in
+      record { answer = ap (λ (x : CurveOutcome). x .said) (sym o); result = ap (λ (x : CurveOutcome). x .result) (sym o); work = ap (λ (x : CurveOutcome). x .work) (sym o) }
+
+  -- 2: the largest capacity is 0
+  pub low : m < 1 → CurvedAs m t r w (Refused 2) r w
+  unfolding curveRefusal
+  low a = refuses 2 refl (simp (lt-leb 1 m a))
+
+  -- 2: it is over 512
+  pub high : 1 ≤ m → 512 < m → CurvedAs m t r w (Refused 2) r w
+  unfolding curveRefusal
+  high a b = refuses 2 refl (simp (le-leb 1 m a, lt-leb m 512 b))
+
+  module _ (a : 1 ≤ m) (b : m ≤ 512) where
+    -- 7: the trace is too long
+    pub long : 65535 < length t → CurvedAs m t r w (Refused 7) r w
+    unfolding curveRefusal
+    long l = refuses 7 refl (simp (le-leb 1 m a, le-leb m 512 b, lt-ltb 65535 (length t) l))
+
+    module _ (l : length t ≤ 65535) where
+      -- 6: `find` of NONE came to d, a place of the trace
+      pub unpaged : (d : ℕ) → d ≡ depth NONE t → d < length t → CurvedAs m t r w (Refused 6) r w
+      unfolding curveRefusal
+      unpaged d e h = refuses 6 refl (simp (le-leb 1 m a, le-leb m 512 b, le-ltb 65535 (length t) l, has-depth NONE t ∙ lt-ltb (depth NONE t) (length t) (omega arith)))
+
+      module _ (h : has t NONE ≡ false) where
+        -- 8: result is too short
+        pub narrow : length r < m → CurvedAs m t r w (Refused 8) r w
+        unfolding curveRefusal
+        narrow k = refuses 8 refl (simp (le-leb 1 m a, le-leb m 512 b, le-ltb 65535 (length t) l, h, lt-ltb (length r) m k))
+
+        -- 8: work is too short
+        pub cramped : m ≤ length r → length w < m → CurvedAs m t r w (Refused 8) r w
+        unfolding curveRefusal
+        cramped k q = refuses 8 refl (simp (le-leb 1 m a, le-leb m 512 b, le-ltb 65535 (length t) l, h, le-ltb (length r) m k, lt-ltb (length w) m q))
+
+        -- nothing is refused
+        pub outcome-done : m ≤ length r → m ≤ length w → curved m t r w ≡ outcome 0
+        unfolding curveRefusal
+        outcome-done k q = outcome-is 0 (simp (le-leb 1 m a, le-leb m 512 b, le-ltb 65535 (length t) l, h, le-ltb (length r) m k, le-ltb (length w) m q))
+
+        -- what `curve_into` leaves in the fronts of result and work is what is owed
+        pub done : m ≤ length r → m ≤ length w → Pages t → (r₁ w₁ : List ℕ) → r₁ ≡ series (hitsOf t) m 1 → w₁ ≡ pad NONE m (pagesOf m t)
+            → CurvedAs m t r w Done (r₁ ++ drop m r) (w₁ ++ drop m w)
+        unfolding over
+        done k q ps r₁ w₁ x y =
+            let o = outcome-done k q in
+            let x′ : r₁ ≡ series (lruHits t) m 1 = x ∙ series-same (hitsOf t) (lruHits t) m 1 (λ c i j. sym (hits-plain t c i (omega arith) ps)) in
+            let y′ : w₁ ≡ pad NONE m (lruPages t m) = y ∙ ap (pad NONE m) (sym (pages-plain t m a b ps)) in
+            record {
+              answer = ap (λ (z : CurveOutcome). z .said) (sym o);
+              result = (λ j. x′ j ++ drop (sym (length-series (lruHits t) m 1) j) r) ∙ ap (λ (z : CurveOutcome). z .result) (sym o);
+              work = (λ j. y′ j ++ drop (sym (length-pad m (lruPages t m)) j) w) ∙ ap (λ (z : CurveOutcome). z .work) (sym o);
+            }
+
+-- what `find` of NONE tells
+pub lacks : (t : List ℕ) (d : ℕ) → d ≡ depth NONE t → length t ≤ d → has t NONE ≡ false
+lacks t d e h = has-depth NONE t ∙ le-ltb (depth NONE t) (length t) (omega arith)
