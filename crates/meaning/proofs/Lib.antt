@@ -12,6 +12,8 @@ pub mod Walks
 pub mod Listed
 pub mod Read
 pub mod Accepted
+pub mod Numbered
+pub mod Series
 pub mod Back
 pub mod Injective
 pub mod Rows

@@ -16,7 +16,8 @@ use Rattle.meaning.proofs.Lists.{split, no-true}
 use Rattle.replay.specs.Plain.{depth, pagesOf, hitsOf}
 use Rattle.replay.specs.Curve.{CurvedAs}
 use Rattle.replay.proofs.Plain.{has-depth}
-use Rattle.replay.proofs.Counts.{length-series, length-pad}
+use Rattle.meaning.proofs.Series.{length-series, series-same}
+use Rattle.replay.proofs.Counts.{length-pad}
 use Rattle.replay.proofs.Projection.{hits-plain, pages-plain}
 
 -- words of 32 bits, none of them NONE, are pages
@@ -32,10 +33,6 @@ pub no-none : (t : List ℕ) → Pages t → has t NONE ≡ false
 unfolding Pages has
 no-none [] ps = refl
 no-none (p ∷ t) ps = simp (ne-eqb NONE p (λ z. omega (arith, z, ps .0))) (no-none t (ps .1))
-
-series-same : (f g : ℕ → ℕ) (n c : ℕ) → ((k : ℕ) → c ≤ k → k < c + n → f k ≡ g k) → series f n c ≡ series g n c
-series-same f g zero c h = refl
-series-same f g (suc n) c h = λ j. h c (omega arith) (omega arith) j ∷ series-same f g n (suc c) (λ k a b. h k (omega arith) (omega arith)) j
 
 module _ (m : ℕ) (t r w : List ℕ) where
   -- what the refusal's number makes of the call

@@ -15,6 +15,7 @@ use Rattle.meaning.specs.Neighbours.{NONE, has}
 use Rattle.replay.specs.Plain.{found, depth, erased, erase, toTop, step, listAfter, hitsOn, pagesOf, hitsOf}
 use Rattle.replay.specs.Curve.{moved, bump, bumps, total, sums}
 use Rattle.replay.proofs.Lists.{total-bump, total-bump-le, length-sums, sums-get}
+use Rattle.meaning.proofs.Series.{length-series}
 use Rattle.replay.proofs.Plain.{erase-is, erase-miss, step-take, stack, pages-stack}
 
 -- ---- what a turn of the walk does to its places is one request at their number
@@ -154,11 +155,6 @@ fresh-count m c t h e =
     ∙ ap (λ (n : ℕ). n + hitsOn c (take c []) t) (total-zeros c m)
     ∙ zero-add (hitsOn c (take c []) t)
     ∙ ap (λ (L : List ℕ). hitsOn c L t) (take-nil c)
-
--- a series is as long as asked for
-pub length-series : (f : ℕ → ℕ) (n c : ℕ) → length (series f n c) ≡ n
-length-series f zero c = refl
-length-series f (suc n) c = ap suc (length-series f n (suc c))
 
 -- what stands at place k of a series
 pub series-get : (f : ℕ → ℕ) (n c k : ℕ) → k < n → getD (series f n c) k 0 ≡ f (k + c)

@@ -20,7 +20,8 @@ use Rattle.meaning.proofs.Injective.{curve-settles}
 use Rattle.meaning.proofs.Back.{fresh-sound}
 use Rattle.replay.specs.Curve.{CurvedAs}
 use Rattle.replay.proofs.Plain.{pages-front}
-use Rattle.replay.proofs.Counts.{length-series, series-get, length-pad, pad-front}
+use Rattle.meaning.proofs.Series.{length-series}
+use Rattle.replay.proofs.Counts.{series-get, length-pad, pad-front}
 use Rattle.replay.proofs.Projection.{lruOf, pages-plain}
 use Rattle.replay.proofs.Answers.{no-none, outcome, outcome-done}
 

@@ -23,6 +23,7 @@ use Rattle.meaning.proofs.Chained.{bucket-lt}
 use Rattle.meaning.proofs.Unique.{below}
 use Rattle.meaning.proofs.Trip.{repr-words}
 use Rattle.sound.specs.Sized.{Sized, chainIn}
+use Rattle.meaning.proofs.Numbered.{list-fits, held-used}
 use Rattle.meaning.proofs.Tests.{and-left, and-right, both, every-at}
 use Rattle.meaning.proofs.Counted.{before-last, tally-has, tally-same, each-value}
 use Rattle.meaning.proofs.Walks.{walk-stop, walk-front, walk-after}
@@ -42,18 +43,6 @@ link-before ws p (y ∷ L) k i h = split i y
 nobody : (i : ℕ) → has [] i ≡ false
 unfolding has
 nobody i = refl
-
-few-lists : (p : ℕ) → listsOf p ≤ 4
-unfolding listsOf
-few-lists p = by-test (eqb p 3) (λ t. simp t (omega arith)) (λ t. by-test (eqb p 4) (λ u. simp (t, u) (omega arith)) (λ u. by-test (eqb p 5) (λ v. simp (t, u, v) (omega arith)) (λ v. simp (t, u, v) (omega arith))))
-
-list-fits : (p j : ℕ) → isList p j ≡ true → (1 ≤ j) × (j ≤ 4)
-unfolding isList
-list-fits p j h = (leb-true 1 j (and-left _ _ h), omega (arith, leb-true j (listsOf p) (and-right (leb 1 j) _ h), few-lists p))
-
-held-used : (j : ℕ) → isHeld j ≡ true → j ≡ 0 → ⊥
-unfolding isHeld
-held-used j h z = no-true (sym (simp z) ∙ h)
 
 module _ (ws : List ℕ) (R : Rules ws) where
   fits : Sized ws

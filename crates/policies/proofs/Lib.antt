@@ -1,0 +1,4 @@
+pub mod Entry
+pub mod Formed
+pub mod Looked
+pub mod Reported
