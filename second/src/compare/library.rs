@@ -1,0 +1,259 @@
+//! The library's functions, and what C sees of a call to them.
+
+use super::call::{widened, Call, Seen};
+use super::lent::Lent;
+
+/// What stands around lent words.
+const WORD_GUARD: u32 = 0xC0DE_CAFE;
+
+/// What stands around lent bytes.
+const BYTE_GUARD: u8 = 0xA7;
+
+extern "C" {
+    fn pd_words(policy: u32, capacity: u32, first: u32, second: u32, answer: *mut u32) -> u32;
+    fn pd_form(
+        policy: u32,
+        capacity: u32,
+        first: u32,
+        second: u32,
+        words: *mut u32,
+        n: usize,
+    ) -> u32;
+    fn pd_audit(words: *const u32, n: usize) -> u32;
+    fn pd_look(words: *const u32, n: usize, page: u32, answer: *mut u32) -> u32;
+    fn pd_report(
+        words: *const u32,
+        n: usize,
+        list: u32,
+        result: *mut u32,
+        rn: usize,
+        answer: *mut u32,
+    ) -> u32;
+    fn pd_curve(
+        largest: u32,
+        trace: *const u32,
+        tn: usize,
+        result: *mut u32,
+        rn: usize,
+        work: *mut u32,
+        wn: usize,
+    ) -> u32;
+    fn pd_read(
+        text: *const u8,
+        n: usize,
+        trace: *mut u32,
+        tn: usize,
+        answer: *mut u32,
+    ) -> u64;
+    fn pd_write(
+        policy: u32,
+        capacity: u32,
+        first: u32,
+        second: u32,
+        trace: *const u32,
+        tn: usize,
+        text: *mut u8,
+        n: usize,
+        answer: *mut u32,
+    ) -> u32;
+    #[cfg(requests)]
+    fn pd_request(words: *mut u32, n: usize, page: u32, answer: *mut u32) -> u32;
+    #[cfg(requests)]
+    fn pd_replay(
+        words: *mut u32,
+        n: usize,
+        trace: *const u32,
+        tn: usize,
+        answer: *mut u32,
+    ) -> u32;
+}
+
+/// What C sees of the call.
+pub fn seen(call: &Call) -> Seen {
+    match *call {
+        Call::Words { settings, answer } => words(settings, answer),
+        Call::Form { settings, words } => form(settings, words),
+        Call::Audit { words } => audit(words),
+        Call::Look {
+            words,
+            page,
+            answer,
+        } => look(words, page, answer),
+        Call::Report {
+            words,
+            list,
+            result,
+            answer,
+        } => report(words, list, result, answer),
+        Call::Curve {
+            largest,
+            trace,
+            result,
+            work,
+        } => curve(largest, trace, result, work),
+        Call::Read {
+            text,
+            trace,
+            answer,
+        } => read(text, trace, answer),
+        Call::Write {
+            settings,
+            trace,
+            text,
+            answer,
+        } => write(settings, trace, text, answer),
+        #[cfg(requests)]
+        Call::Request {
+            words,
+            page,
+            answer,
+        } => request(words, page, answer),
+        #[cfg(requests)]
+        Call::Replay {
+            words,
+            trace,
+            answer,
+        } => replay(words, trace, answer),
+    }
+}
+
+/// Guarded words.
+fn lend(contents: &[u32]) -> Lent<u32> {
+    Lent::new(contents, WORD_GUARD)
+}
+
+/// Guarded bytes.
+fn lend_bytes(contents: &[u8]) -> Lent<u8> {
+    Lent::new(contents, BYTE_GUARD)
+}
+
+/// What was returned and what stands in the lent words.
+fn words_seen(code: u32, lent: &[&Lent<u32>]) -> Seen {
+    Seen {
+        code: u64::from(code),
+        lent: lent.iter().map(|part| part.contents().to_vec()).collect(),
+        guarded: lent.iter().all(|part| part.is_guarded()),
+    }
+}
+
+/// The same, with lent bytes put before the stretch of the given number.
+fn with_bytes(mut seen: Seen, place: usize, bytes: &Lent<u8>) -> Seen {
+    seen.lent.insert(place, widened(bytes.contents()));
+    seen.guarded &= bytes.is_guarded();
+    seen
+}
+
+/// What C sees of pd_words.
+fn words(settings: [u32; 4], answer: [u32; 1]) -> Seen {
+    let [policy, capacity, first, second] = settings;
+    let mut answer = lend(&answer);
+    let code = unsafe { pd_words(policy, capacity, first, second, answer.address()) };
+    words_seen(code, &[&answer])
+}
+
+/// What C sees of pd_form.
+fn form(settings: [u32; 4], words: &[u32]) -> Seen {
+    let [policy, capacity, first, second] = settings;
+    let mut words = lend(words);
+    let n = words.len();
+    let code = unsafe { pd_form(policy, capacity, first, second, words.address(), n) };
+    words_seen(code, &[&words])
+}
+
+/// What C sees of pd_audit.
+fn audit(words: &[u32]) -> Seen {
+    let mut words = lend(words);
+    let code = unsafe { pd_audit(words.address(), words.len()) };
+    words_seen(code, &[&words])
+}
+
+/// What C sees of pd_look.
+fn look(words: &[u32], page: u32, answer: [u32; 2]) -> Seen {
+    let (mut words, mut answer) = (lend(words), lend(&answer));
+    let code = unsafe { pd_look(words.address(), words.len(), page, answer.address()) };
+    words_seen(code, &[&words, &answer])
+}
+
+/// What C sees of pd_report.
+fn report(words: &[u32], list: u32, result: &[u32], answer: [u32; 1]) -> Seen {
+    let (mut words, mut result, mut answer) = (lend(words), lend(result), lend(&answer));
+    let (n, rn) = (words.len(), result.len());
+    let code = unsafe {
+        pd_report(
+            words.address(),
+            n,
+            list,
+            result.address(),
+            rn,
+            answer.address(),
+        )
+    };
+    words_seen(code, &[&words, &result, &answer])
+}
+
+/// What C sees of pd_curve.
+fn curve(largest: u32, trace: &[u32], result: &[u32], work: &[u32]) -> Seen {
+    let (mut trace, mut result, mut work) = (lend(trace), lend(result), lend(work));
+    let (tn, rn, wn) = (trace.len(), result.len(), work.len());
+    let code = unsafe {
+        pd_curve(
+            largest,
+            trace.address(),
+            tn,
+            result.address(),
+            rn,
+            work.address(),
+            wn,
+        )
+    };
+    words_seen(code, &[&trace, &result, &work])
+}
+
+/// What C sees of pd_read.
+fn read(text: &[u8], trace: &[u32], answer: [u32; 5]) -> Seen {
+    let (mut text, mut trace, mut answer) = (lend_bytes(text), lend(trace), lend(&answer));
+    let (n, tn) = (text.len(), trace.len());
+    let code = unsafe { pd_read(text.address(), n, trace.address(), tn, answer.address()) };
+    let mut seen = with_bytes(words_seen(0, &[&trace, &answer]), 0, &text);
+    seen.code = code;
+    seen
+}
+
+/// What C sees of pd_write.
+fn write(settings: [u32; 4], trace: &[u32], text: &[u8], answer: [u32; 1]) -> Seen {
+    let [policy, capacity, first, second] = settings;
+    let (mut trace, mut text, mut answer) = (lend(trace), lend_bytes(text), lend(&answer));
+    let (tn, n) = (trace.len(), text.len());
+    let code = unsafe {
+        pd_write(
+            policy,
+            capacity,
+            first,
+            second,
+            trace.address(),
+            tn,
+            text.address(),
+            n,
+            answer.address(),
+        )
+    };
+    with_bytes(words_seen(code, &[&trace, &answer]), 1, &text)
+}
+
+/// What C sees of pd_request.
+#[cfg(requests)]
+fn request(words: &[u32], page: u32, answer: [u32; 4]) -> Seen {
+    let (mut words, mut answer) = (lend(words), lend(&answer));
+    let n = words.len();
+    let code = unsafe { pd_request(words.address(), n, page, answer.address()) };
+    words_seen(code, &[&words, &answer])
+}
+
+/// What C sees of pd_replay.
+#[cfg(requests)]
+fn replay(words: &[u32], trace: &[u32], answer: [u32; 3]) -> Seen {
+    let (mut words, mut trace, mut answer) = (lend(words), lend(trace), lend(&answer));
+    let (n, tn) = (words.len(), trace.len());
+    let code = unsafe { pd_replay(words.address(), n, trace.address(), tn, answer.address()) };
+    words_seen(code, &[&words, &trace, &answer])
+}
