@@ -1,4 +1,4 @@
-//! Compares the static library with the second program, call by call.
+//! Compares the static library with the second program, call by call; with `--cfg requests` also pd_request and pd_replay.
 
 #[allow(dead_code)]
 mod audit;

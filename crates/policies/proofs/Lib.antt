@@ -1,3 +1,12 @@
+pub mod Rooming
+pub mod Backs
+pub mod Spaces
+pub mod OfLru
+pub mod OfSegmented
+pub mod OfTwoQ
+pub mod OfClock
+pub mod OfArc
+pub mod Requesting
 pub mod Entry
 pub mod Formed
 pub mod Looked

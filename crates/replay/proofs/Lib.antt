@@ -3,5 +3,7 @@ pub mod Lists
 pub mod Plain
 pub mod Counts
 pub mod Projection
+pub mod Turning
+pub mod InTurn
 pub mod Answers
 pub mod Demand

@@ -23,7 +23,7 @@ fn fill(s: &mut [u32], v: u32)
 }
 
 // The place of the first word that is p, or the length where there is none.
-fn find(s: &[u32], p: u32) -> usize
+pub(crate) fn find(s: &[u32], p: u32) -> usize
     ensures { λ r. ⌜ r ≡ depth p (now (s .entry)) ⌝ }
 {
     let mut i = 0;

@@ -10,7 +10,7 @@ use super::{expected, library};
 const TOLD: usize = 10;
 
 /// How many words of a lent stretch are told.
-const SHOWN: usize = 40;
+const SHOWN: usize = 4;
 
 /// The comparisons made and the differences found.
 pub struct Bench {
@@ -59,14 +59,22 @@ impl Bench {
         }
     }
 
-    /// Counts a comparison of a single number that the library gave.
-    pub fn compare_number(&mut self, name: &'static str, what: &str, seen: u32, expected: u32) {
+    /// Counts a comparison of some words that the library left.
+    pub fn compare_words(
+        &mut self,
+        name: &'static str,
+        what: &str,
+        seen: &[u32],
+        expected: &[u32],
+    ) {
         if self.is_done() {
             return;
         }
         self.count(name, 0);
         if seen != expected {
-            self.differ(format!("{name} on {what}: saw {seen}, expected {expected}"));
+            self.differ(format!(
+                "{name} on {what}: saw {seen:?}, expected {expected:?}"
+            ));
         }
     }
 

@@ -10,7 +10,9 @@ const WORD_GUARD: u32 = 0xC0DE_CAFE;
 const BYTE_GUARD: u8 = 0xA7;
 
 extern "C" {
+    /// The length that form asks.
     fn pd_words(policy: u32, capacity: u32, first: u32, second: u32, answer: *mut u32) -> u32;
+    /// Writes a fresh directory over the words.
     fn pd_form(
         policy: u32,
         capacity: u32,
@@ -19,8 +21,11 @@ extern "C" {
         words: *mut u32,
         n: usize,
     ) -> u32;
+    /// 1 if the words are a sound directory, else 0.
     fn pd_audit(words: *const u32, n: usize) -> u32;
+    /// Where a page is, and its slot.
     fn pd_look(words: *const u32, n: usize, page: u32, answer: *mut u32) -> u32;
+    /// The pages of a list, front first.
     fn pd_report(
         words: *const u32,
         n: usize,
@@ -29,6 +34,7 @@ extern "C" {
         rn: usize,
         answer: *mut u32,
     ) -> u32;
+    /// The LRU hits at each capacity, and the LRU list at the largest.
     fn pd_curve(
         largest: u32,
         trace: *const u32,
@@ -38,13 +44,9 @@ extern "C" {
         work: *mut u32,
         wn: usize,
     ) -> u32;
-    fn pd_read(
-        text: *const u8,
-        n: usize,
-        trace: *mut u32,
-        tn: usize,
-        answer: *mut u32,
-    ) -> u64;
+    /// Reads a trace text: the refusal in the low half, its line in the high half.
+    fn pd_read(text: *const u8, n: usize, trace: *mut u32, tn: usize, answer: *mut u32) -> u64;
+    /// Writes a trace text.
     fn pd_write(
         policy: u32,
         capacity: u32,
@@ -56,16 +58,12 @@ extern "C" {
         n: usize,
         answer: *mut u32,
     ) -> u32;
+    /// Asks the directory for a page.
     #[cfg(requests)]
     fn pd_request(words: *mut u32, n: usize, page: u32, answer: *mut u32) -> u32;
+    /// Does the requests of a trace in turn.
     #[cfg(requests)]
-    fn pd_replay(
-        words: *mut u32,
-        n: usize,
-        trace: *const u32,
-        tn: usize,
-        answer: *mut u32,
-    ) -> u32;
+    fn pd_replay(words: *mut u32, n: usize, trace: *const u32, tn: usize, answer: *mut u32) -> u32;
 }
 
 /// What C sees of the call.

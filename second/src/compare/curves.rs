@@ -1,0 +1,207 @@
+//! The curve: short traces against the model, long ones against depths that are themselves held against the model.
+
+use crate::calls::{form, replay, report, words_for};
+use crate::random::{page_pool, trace_over, Random};
+use crate::refusal::Refusal;
+use crate::settings::{LARGEST_CAPACITY, LONGEST, NONE};
+
+use super::bench::Bench;
+use super::call::Call;
+use super::forming::{garbage, CAPACITIES};
+use super::library;
+
+/// Requests of a short trace times capacities, at most.
+const SHORT: usize = 40_000;
+
+/// Pages of a long trace.
+const LONG: usize = 60_000;
+
+/// Short traces for each unit of scale.
+const SHORT_TRACES: usize = 10_000;
+
+/// Compares pd_curve.
+pub fn run(bench: &mut Bench, random: &mut Random, scale: usize) {
+    for _ in 0..SHORT_TRACES * scale {
+        short(bench, random);
+    }
+    refusals(bench, random);
+    for round in 0..2 * scale {
+        long(bench, random, round % 2 == 0);
+    }
+    longest(bench, random);
+}
+
+/// Whether the model, which runs each capacity apart, would be slow.
+pub fn is_long(largest: u32, trace: &[u32]) -> bool {
+    largest as usize * trace.len() > SHORT
+}
+
+/// A trace over a pool of random size.
+fn trace(random: &mut Random, length: usize, most_pages: usize) -> Vec<u32> {
+    let large = random.one_in(2);
+    let pages = 1 + random.below(most_pages);
+    let pool = page_pool(random, pages, large);
+    trace_over(random, &pool, length)
+}
+
+/// Compares one curve, with buffers that are longer by the given words.
+fn curve(bench: &mut Bench, random: &mut Random, what: &str, of: (u32, &[u32]), more: [usize; 2]) {
+    let (largest, trace) = of;
+    let needed = largest.min(LARGEST_CAPACITY + 1) as usize;
+    let result = garbage(random, needed + more[0]);
+    let work = garbage(random, needed + more[1]);
+    bench.compare(
+        what,
+        &Call::Curve {
+            largest,
+            trace,
+            result: &result,
+            work: &work,
+        },
+    );
+}
+
+/// A short trace, with buffers that are exact or longer.
+fn short(bench: &mut Bench, random: &mut Random) {
+    let largest = if random.one_in(3) {
+        random.pick(&CAPACITIES)
+    } else {
+        random.between(1, 12)
+    };
+    let length = random.below((SHORT / largest as usize).min(120));
+    let trace = trace(random, length, 20);
+    let more = [random.below(4), random.below(4)];
+    curve(bench, random, "a short trace", (largest, &trace), more);
+}
+
+/// Every refusal alone, and each pair of them.
+fn refusals(bench: &mut Bench, random: &mut Random) {
+    let plain = trace(random, 30, 10);
+    let with_none = [&plain[..], &[NONE], &plain[..]].concat();
+    let too_long = trace(random, LONGEST + 1, 10);
+    let mut too_long_with_none = too_long.clone();
+    too_long_with_none[0] = NONE;
+    let none_last = [&plain[..], &[NONE]].concat();
+    let traces = [
+        &[],
+        &plain[..],
+        &with_none,
+        &none_last,
+        &too_long,
+        &too_long_with_none,
+    ];
+    for largest in [0, 1, 5, 512, 513, NONE] {
+        let needed = largest.min(LARGEST_CAPACITY + 1) as usize;
+        let short = needed.saturating_sub(1);
+        for (room, places) in [
+            (needed, needed),
+            (short, needed),
+            (needed, short),
+            (short, short),
+            (0, 0),
+        ] {
+            for trace in traces {
+                let (result, work) = (garbage(random, room), garbage(random, places));
+                bench.compare(
+                    "a refusal",
+                    &Call::Curve {
+                        largest,
+                        trace,
+                        result: &result,
+                        work: &work,
+                    },
+                );
+            }
+        }
+    }
+}
+
+/// A long trace at capacity 512, also against the model's directories of some capacities.
+fn long(bench: &mut Bench, random: &mut Random, near: bool) {
+    if bench.is_done() {
+        return;
+    }
+    let trace = trace(random, LONG, if near { 700 } else { 3_000 });
+    let buffer = garbage(random, LARGEST_CAPACITY as usize + 3);
+    let call = Call::Curve {
+        largest: LARGEST_CAPACITY,
+        trace: &trace,
+        result: &buffer,
+        work: &buffer,
+    };
+    bench.compare("a long trace", &call);
+    let seen = library::seen(&call);
+    for capacity in CAPACITIES {
+        let (hits, pages) = lru(capacity, &trace);
+        let place = capacity as usize - 1;
+        let what = "a long trace at one capacity";
+        bench.compare_words("pd_curve", what, &seen.lent[1][place..=place], &[hits]);
+        let front = &seen.lent[2][..pages.len()];
+        bench.compare_words("pd_curve", what, front, &pages);
+    }
+}
+
+/// The longest trace, and one page more.
+fn longest(bench: &mut Bench, random: &mut Random) {
+    let trace = trace(random, LONGEST + 1, 40);
+    let exact = &trace[..LONGEST];
+    curve(bench, random, "the longest trace", (8, exact), [1, 0]);
+    curve(bench, random, "a page too many", (8, &trace), [0, 1]);
+}
+
+/// The hits and the last list of an LRU directory of the model.
+fn lru(capacity: u32, trace: &[u32]) -> (u32, Vec<u32>) {
+    let length = words_for(1, capacity, 0, 0).expect("a capacity in its range");
+    let mut words = vec![0; length as usize];
+    form(1, capacity, 0, 0, &mut words).expect("words of the exact length");
+    let counts = replay(&mut words, trace).expect("a trace of pages");
+    let mut pages = vec![0; capacity as usize];
+    let count = report(&words, 1, &mut pages).expect("a list of LRU");
+    pages.truncate(count as usize);
+    (counts.hits, pages)
+}
+
+/// The curve by the depth of each page in one list.
+pub fn by_depths(
+    largest: u32,
+    trace: &[u32],
+    result: &mut [u32],
+    work: &mut [u32],
+) -> Result<(), Refusal> {
+    let count = largest as usize;
+    if !(1..=LARGEST_CAPACITY).contains(&largest) {
+        return Err(Refusal::CapacityRange);
+    }
+    if trace.len() > LONGEST {
+        return Err(Refusal::TooLong);
+    }
+    if trace.contains(&NONE) {
+        return Err(Refusal::NotAPage);
+    }
+    if result.len() < count || work.len() < count {
+        return Err(Refusal::BufferTooShort);
+    }
+    let (list, depths) = depths(count, trace);
+    for capacity in 1..=count {
+        result[capacity - 1] = depths[..capacity].iter().sum();
+        work[capacity - 1] = list.get(capacity - 1).copied().unwrap_or(NONE);
+    }
+    Ok(())
+}
+
+/// The last pages, latest first, and how often a page was found at each depth.
+fn depths(count: usize, trace: &[u32]) -> (Vec<u32>, Vec<u32>) {
+    let mut list: Vec<u32> = Vec::with_capacity(count + 1);
+    let mut depths = vec![0; count];
+    for page in trace {
+        match list.iter().position(|other| other == page) {
+            Some(depth) => {
+                depths[depth] += 1;
+                list.remove(depth);
+            }
+            None => list.truncate(count - 1),
+        }
+        list.insert(0, *page);
+    }
+    (list, depths)
+}
