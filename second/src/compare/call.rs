@@ -42,13 +42,11 @@ pub enum Call<'a> {
         text: &'a [u8],
         answer: [u32; 1],
     },
-    #[cfg(requests)]
     Request {
         words: &'a [u32],
         page: u32,
         answer: [u32; 4],
     },
-    #[cfg(requests)]
     Replay {
         words: &'a [u32],
         trace: &'a [u32],
@@ -77,9 +75,7 @@ impl Call<'_> {
             Call::Curve { .. } => "pd_curve",
             Call::Read { .. } => "pd_read",
             Call::Write { .. } => "pd_write",
-            #[cfg(requests)]
             Call::Request { .. } => "pd_request",
-            #[cfg(requests)]
             Call::Replay { .. } => "pd_replay",
         }
     }

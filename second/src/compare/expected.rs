@@ -1,7 +1,6 @@
 //! What the model expects C to see.
 
 use crate::calls::{self, Looked};
-#[cfg(requests)]
 use crate::policies::Answer;
 use crate::refusal::Refusal;
 use crate::settings::NONE;
@@ -44,13 +43,11 @@ pub fn seen(call: &Call) -> Seen {
             text,
             answer,
         } => write(settings, trace, text, answer),
-        #[cfg(requests)]
         Call::Request {
             words,
             page,
             answer,
         } => request(words, page, answer),
-        #[cfg(requests)]
         Call::Replay {
             words,
             trace,
@@ -156,7 +153,6 @@ fn write(settings: [u32; 4], trace: &[u32], text: &[u8], answer: [u32; 1]) -> Se
 }
 
 /// What C is to see of pd_request.
-#[cfg(requests)]
 fn request(words: &[u32], page: u32, answer: [u32; 4]) -> Seen {
     let mut words = words.to_vec();
     let outcome = calls::request(&mut words, page).map(|answer| match answer {
@@ -168,7 +164,6 @@ fn request(words: &[u32], page: u32, answer: [u32; 4]) -> Seen {
 }
 
 /// What C is to see of pd_replay.
-#[cfg(requests)]
 fn replay(words: &[u32], trace: &[u32], answer: [u32; 3]) -> Seen {
     let mut words = words.to_vec();
     let outcome = calls::replay(&mut words, trace);

@@ -59,10 +59,8 @@ extern "C" {
         answer: *mut u32,
     ) -> u32;
     /// Asks the directory for a page.
-    #[cfg(requests)]
     fn pd_request(words: *mut u32, n: usize, page: u32, answer: *mut u32) -> u32;
     /// Does the requests of a trace in turn.
-    #[cfg(requests)]
     fn pd_replay(words: *mut u32, n: usize, trace: *const u32, tn: usize, answer: *mut u32) -> u32;
 }
 
@@ -100,13 +98,11 @@ pub fn seen(call: &Call) -> Seen {
             text,
             answer,
         } => write(settings, trace, text, answer),
-        #[cfg(requests)]
         Call::Request {
             words,
             page,
             answer,
         } => request(words, page, answer),
-        #[cfg(requests)]
         Call::Replay {
             words,
             trace,
@@ -239,7 +235,6 @@ fn write(settings: [u32; 4], trace: &[u32], text: &[u8], answer: [u32; 1]) -> Se
 }
 
 /// What C sees of pd_request.
-#[cfg(requests)]
 fn request(words: &[u32], page: u32, answer: [u32; 4]) -> Seen {
     let (mut words, mut answer) = (lend(words), lend(&answer));
     let n = words.len();
@@ -248,7 +243,6 @@ fn request(words: &[u32], page: u32, answer: [u32; 4]) -> Seen {
 }
 
 /// What C sees of pd_replay.
-#[cfg(requests)]
 fn replay(words: &[u32], trace: &[u32], answer: [u32; 3]) -> Seen {
     let (mut words, mut trace, mut answer) = (lend(words), lend(trace), lend(&answer));
     let (n, tn) = (words.len(), trace.len());

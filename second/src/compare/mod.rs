@@ -8,7 +8,6 @@ mod expected;
 mod forming;
 mod lent;
 mod library;
-#[cfg(requests)]
 mod requests;
 mod slips;
 mod texts;
@@ -29,7 +28,6 @@ const PARTS: &[Part] = &[
     (directories::run, &["pd_audit", "pd_look", "pd_report"]),
     (curves::run, &["pd_curve"]),
     (texts::run, &["pd_read", "pd_write"]),
-    #[cfg(requests)]
     (requests::run, &["pd_request", "pd_replay"]),
 ];
 

@@ -126,7 +126,7 @@ fn long(bench: &mut Bench, random: &mut Random, policy: Policy) {
     let settings = settings_at(random, policy, 512);
     let pool = page_pool(random, 1_300, true);
     let words = encode(&Directory::fresh(settings));
-    let trace = trace_over(random, &pool, 10_000);
+    let trace = trace_over(random, &pool, 60_000);
     replay(bench, random, "a long trace", &words, &trace);
 }
 

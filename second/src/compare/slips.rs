@@ -70,23 +70,14 @@ pub const SLIPS: &[Slip] = &[
     slip("pd_write", "8 before 7", write_eight_first),
     slip("pd_write", "bytes behind the text cleared", write_cleared),
     slip("pd_write", "no last byte 10", write_no_end),
-    #[cfg(requests)]
     slip("pd_request", "6 before 5", request_six_first),
-    #[cfg(requests)]
     slip("pd_request", "cleared marks uncounted", request_marks),
-    #[cfg(requests)]
     slip("pd_request", "the page put out untold", request_out),
-    #[cfg(requests)]
     slip("pd_request", "hand or target kept", request_dial),
-    #[cfg(requests)]
     slip("pd_request", "a swap told as a load", request_kind),
-    #[cfg(requests)]
     slip("pd_replay", "swaps counted as loads", replay_swaps),
-    #[cfg(requests)]
     slip("pd_replay", "6 before 7", replay_six_first),
-    #[cfg(requests)]
     slip("pd_replay", "the words left alone", replay_idle),
-    #[cfg(requests)]
     slip("pd_replay", "65,535 pages refused", replay_longest),
 ];
 
@@ -529,7 +520,6 @@ fn write_no_end(call: &Call, seen: &mut Seen) {
 }
 
 /// A page that is none is refused before unsound words.
-#[cfg(requests)]
 fn request_six_first(call: &Call, seen: &mut Seen) {
     if let (Call::Request { page: NONE, .. }, 5) = (call, seen.code) {
         seen.code = 6;
@@ -537,7 +527,6 @@ fn request_six_first(call: &Call, seen: &mut Seen) {
 }
 
 /// Cleared marks are not counted.
-#[cfg(requests)]
 fn request_marks(_: &Call, seen: &mut Seen) {
     if seen.code == 0 {
         seen.lent[1][3] = 0;
@@ -545,7 +534,6 @@ fn request_marks(_: &Call, seen: &mut Seen) {
 }
 
 /// The page put out is not told.
-#[cfg(requests)]
 fn request_out(_: &Call, seen: &mut Seen) {
     if seen.code == 0 {
         seen.lent[1][2] = NONE;
@@ -553,7 +541,6 @@ fn request_out(_: &Call, seen: &mut Seen) {
 }
 
 /// Word 6 is not written.
-#[cfg(requests)]
 fn request_dial(call: &Call, seen: &mut Seen) {
     if let (Call::Request { words, .. }, 0) = (call, seen.code) {
         seen.lent[0][6] = words[6];
@@ -561,7 +548,6 @@ fn request_dial(call: &Call, seen: &mut Seen) {
 }
 
 /// A swap is told as a load.
-#[cfg(requests)]
 fn request_kind(_: &Call, seen: &mut Seen) {
     if seen.code == 0 {
         seen.lent[1][0] = seen.lent[1][0].min(2);
@@ -569,7 +555,6 @@ fn request_kind(_: &Call, seen: &mut Seen) {
 }
 
 /// Swaps are counted as loads.
-#[cfg(requests)]
 fn replay_swaps(_: &Call, seen: &mut Seen) {
     if seen.code == 0 {
         seen.lent[2][1] += seen.lent[2][2];
@@ -578,7 +563,6 @@ fn replay_swaps(_: &Call, seen: &mut Seen) {
 }
 
 /// A page that is none is refused before a trace that is too long.
-#[cfg(requests)]
 fn replay_six_first(_: &Call, seen: &mut Seen) {
     if seen.code == 7 && seen.lent[1].contains(&NONE) {
         seen.code = 6;
@@ -586,7 +570,6 @@ fn replay_six_first(_: &Call, seen: &mut Seen) {
 }
 
 /// The words are left as they were.
-#[cfg(requests)]
 fn replay_idle(call: &Call, seen: &mut Seen) {
     if let Call::Replay { words, .. } = call {
         seen.lent[0] = words.to_vec();
@@ -594,7 +577,6 @@ fn replay_idle(call: &Call, seen: &mut Seen) {
 }
 
 /// The longest trace is refused.
-#[cfg(requests)]
 fn replay_longest(call: &Call, seen: &mut Seen) {
     if let Call::Replay {
         words,
