@@ -1,4 +1,4 @@
-/* A ward of four slots under LRU: forms the directory, looks for a page, reports the list, and prints an LRU curve. */
+/* A ward of four slots under LRU: forms the directory, asks for the pages of a round, reports the list, and prints an LRU curve. */
 #include <inttypes.h>
 #include <stdio.h>
 
@@ -32,6 +32,20 @@ static size_t form(uint32_t *words)
         return 0;
     printf("formed: %" PRIu32 " words, sound %" PRIu32 "\n", length[0], pd_audit(words, length[0]));
     return length[0];
+}
+
+/* Asks for a page, and prints the answer. */
+static void ask(uint32_t *words, size_t n, uint32_t page)
+{
+    static const char *const KINDS[] = {"", "hit", "loaded", "swapped"};
+    uint32_t answer[4] = {0, PD_NONE, PD_NONE, 0};
+
+    if (refused("pd_request", pd_request(words, n, page, answer)))
+        return;
+    printf("page %" PRIu32 ": %s, slot %" PRIu32, page, KINDS[answer[0]], answer[1]);
+    if (answer[2] != PD_NONE)
+        printf(", page %" PRIu32 " put out", answer[2]);
+    printf("\n");
 }
 
 /* Prints where a page is. */
@@ -76,6 +90,8 @@ int main(void)
 
     if (n == 0)
         return 1;
+    for (size_t i = 0; i < ROUND_PAGES; i++)
+        ask(words, n, ROUND[i]);
     look(words, n, 7);
     report(words, n);
     curve();
