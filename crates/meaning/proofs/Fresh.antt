@@ -1,29 +1,21 @@
--- A fresh directory is proper, comes back from its words, and its words are sound.
+-- A fresh directory is proper.
 -- Assumes nothing.
-use Prim.Native.Nat.{ℕ, zero, suc, _+_, _*_, _^_, _≤_, _<_}
+use Prim.Native.Nat.{ℕ, zero, suc, _+_, _^_, _≤_}
 use mathlib.Core.Path.{_≡_, refl, sym, ap, _∙_}
-use mathlib.Core.Bool.{Bool, true, false, not, _&&_, _||_}
-use mathlib.Core.List.{List, [], _∷_}
+use mathlib.Core.List.{[]}
+use mathlib.Core.Bool.{Bool, true, false}
 use native.Mathlib.Omega.{arith}
-use native.Mathlib.Numerals.{add-one}
 use lib.Dec.{eqb, leb, ltb}
-use lib.ListN.{length, getD}
-use borrow.Author.Tests.{eq-eqb, ne-eqb, le-ltb, lt-ltb, le-leb, eqb-true}
-use Rattle.meaning.specs.Base.{if_then_else_, every, tally, one, walk}
-use Rattle.meaning.specs.Neighbours.{NONE, has, behind, ahead, Nodup}
-use Rattle.meaning.specs.Layout.{Settings, isHeld, isList, isSplit, entriesOf, bitsFrom, bitsOf, lengthFor, leastCapacity, settingsRefusal}
-use Rattle.meaning.specs.Mem.{Mem, word, words, decode, headTail, settingsTop, empty, fresh, held}
-use Rattle.meaning.specs.Places.{Family, Fine, Holds, top, head, tail, bucket, cell, page, list, slot, prev, next, chain, mark, spare}
-use Rattle.meaning.specs.Proper.{Indexed, Ordered, Slotted, upTo, Proper}
-use Rattle.meaning.specs.Rules.{E, listIn, on, count, ruleA, word6Fits, ruleB, isFree, entryRight, ruleC, keepsTo, listRight, clockRight, endNone, ruleD, pageNew, ruleE, slotRight, ruleF, chainRight, chained, ruleG, arcSizes, sizesRight, ruleH, broken, sound}
+use borrow.Author.Tests.{ne-eqb, le-ltb}
+use Rattle.meaning.specs.Base.{if_then_else_}
+use Rattle.meaning.specs.Neighbours.{has, Nodup}
+use Rattle.meaning.specs.Layout.{Settings, isHeld, entriesOf, bitsFrom, bitsOf}
+use Rattle.meaning.specs.Mem.{settingsTop, empty, fresh, held}
+use Rattle.meaning.specs.Places.{Family}
+use Rattle.meaning.specs.Proper.{Proper}
 use Rattle.meaning.proofs.Lists.{no-true}
 use Rattle.meaning.proofs.Numbers.{by-test}
-use Rattle.meaning.proofs.Trip.{words-hold, decode-words}
-
-none-held : (n : ℕ) → tally n (λ i. false) ≡ 0
-unfolding tally one
-none-held zero = refl
-none-held (suc n) = omega (arith, none-held n)
+use Rattle.meaning.proofs.Counted.{tally-none}
 
 module _ (t : ℕ → ℕ) (few : t 2 ≤ 1024) (bits : t 3 ≤ 32) (top : (a : ℕ) → 7 ≤ a → t a ≡ 0) where
   none : {key : ℕ → ℕ} → Family (t 2) (λ l. []) key
@@ -43,7 +35,7 @@ module _ (t : ℕ → ℕ) (few : t 2 ≤ 1024) (bits : t 3 ≤ 32) (top : (a : 
     ordered = record { listed = λ i z. absurd (z refl); idle = λ i z. refl };
     slotted = record {
       at = λ s. 0;
-      there = λ s h. no-true (sym (le-ltb s 0 (omega arith)) ∙ ap (λ (n : ℕ). ltb s n) (sym (none-held (t 2))) ∙ h);
+      there = λ s h. no-true (sym (le-ltb s 0 (omega arith)) ∙ ap (λ (n : ℕ). ltb s n) (sym (tally-none (t 2) (λ i. false) (λ i l. refl))) ∙ h);
       back = λ i h. no-true h;
     };
   }
