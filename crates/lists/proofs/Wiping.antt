@@ -10,7 +10,7 @@ use lib.ListN.{length, getD, drop, set, length-set}
 use lib.Seq.{getD-set-same, getD-set-other, sets-eq}
 use borrow.Author.Tests.{eq-eqb, ne-eqb, lt-ltb, le-ltb, le-leb, lt-leb}
 use Rattle.meaning.specs.Neighbours.{NONE, behind, ahead}
-use Rattle.meaning.specs.Layout.{entriesOf, bitsOf}
+use Rattle.meaning.specs.Layout.{four, entriesOf, bitsOf}
 use Rattle.meaning.specs.Mem.{word, settingsTop, empty, fresh}
 use Rattle.meaning.specs.Places.{page, list, slot, prev, next, chain, mark, spare, Place, top, head, tail, bucket, end, cell, Valid, addr, Holds, image}
 use Rattle.meaning.proofs.Lists.{split}
@@ -107,7 +107,7 @@ form-words {ws} {ws₁} {ws₂} {E} {k} p c f s o eq w =
     settles (t 2) (t 3) ws₂ (freshWords p c f s) (image (empty t)) (empty-holds ws₂ t size tops rest) (words-hold (empty t))
   where
     t : ℕ → ℕ
-    t = settingsTop (record { policy = p; C = c; first = f; second = s })
+    t = settingsTop (four p c f s)
 
     header : List ℕ
     header = p ∷ c ∷ E ∷ k ∷ f ∷ s ∷ 0 ∷ []

@@ -8,7 +8,7 @@ use lib.Dec.{eqb, leb, ltb}
 use lib.ListN.{length, set}
 use lib.Seq.{sets}
 use Rattle.meaning.specs.Neighbours.{NONE}
-use Rattle.meaning.specs.Layout.{isHeld, entriesOf, bitsOf, bucketOf, cellAt, headAt, tailAt, bucketAt}
+use Rattle.meaning.specs.Layout.{four, isHeld, entriesOf, bitsOf, bucketOf, cellAt, headAt, tailAt, bucketAt}
 use Rattle.meaning.specs.Mem.{word, words, fresh}
 use Rattle.meaning.specs.Places.{linkAt}
 
@@ -59,7 +59,7 @@ pub record Fits (policy C E k second : ℕ) (ws : List ℕ) : Type 0 where
 
 -- the words of the fresh directory of settings
 abbrev pub freshWords : ℕ → ℕ → ℕ → ℕ → List ℕ
-freshWords p c f s = words (fresh (record { policy = p; C = c; first = f; second = s }))
+freshWords p c f s = words (fresh (four p c f s))
 
 -- entry i holds a page in slot s
 abbrev pub sitsAt : List ℕ → ℕ → ℕ → Bool

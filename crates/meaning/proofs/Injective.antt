@@ -1,4 +1,4 @@
--- What an answer says settles the answer: equal numbers and values mean equal answers, for each answer enum.
+-- What an answer says settles the answer: equal numbers and values mean equal answers, for each answer enum. So no second answer meets a promise.
 -- Assumes nothing.
 use Prim.Native.Nat.{ℕ}
 use mathlib.Core.Path.{_≡_, refl, sym, ap, _∙_}
@@ -30,6 +30,11 @@ use Rattle.meaning.specs.declared.Written.the-variants as write
 -- No two answers say the same.
 abbrev pub Settles : {A B : Type 0} → (A → B) → Type 0
 Settles {A} f = (a b : A) → f a ≡ f b → a ≡ b
+
+-- No second answer, over every promise of the common form: an answer r that says what a definition said, and lent words w that are what it left. Two that meet it are equal.
+pub no-second : {A B W : Type 0} {says : A → B} → Settles says → {said : B} {left : W} {r r′ : A} {w w′ : W}
+    → (says r ≡ said) × (w ≡ left) → (says r′ ≡ said) × (w′ ≡ left) → (r ≡ r′) × (w ≡ w′)
+no-second settles {r = r} {r′ = r′} x y = (settles r r′ (x .0 ∙ sym (y .0)), x .1 ∙ sym (y .1))
 
 -- An answer that can be told from what it says is settled by it.
 told : {A B : Type 0} (f : A → B) (g : B → A) → ((a : A) → g (f a) ≡ a) → Settles f

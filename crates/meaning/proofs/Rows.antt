@@ -7,12 +7,13 @@ use lib.ListN.{length, replicate}
 use lib.Dec.{T, eqb}
 use Rattle.meaning.specs.Base.{if_then_else_, all, same}
 use Rattle.meaning.specs.Neighbours.{NONE}
-use Rattle.meaning.specs.Layout.{Settings, bucketOf, lengthOf}
+use Rattle.meaning.specs.Layout.{Settings, four, bucketOf, lengthOf}
 use Rattle.meaning.specs.Mem.{word, words, decode}
 use Rattle.meaning.specs.Room.{Kind, hit, loaded, swapped, Reply}
 use Rattle.meaning.specs.Rules.{sound}
 use Rattle.meaning.specs.Calls.{Said, refused, gave, Outcome, formed, refusalOf, requested, reported, replayed, Counts, curved, CurveOutcome}
-use Rattle.meaning.specs.Text.{openText, textOf, Reading, unread, accepted, readText}
+use Rattle.meaning.specs.Text.{textOf, Reading, unread, accepted, readText}
+use Rattle.meaning.specs.Program.{openProgram, programmed, fiveLines}
 
 -- A line of a row's script: pages asked for, or what is then seen.
 pub data Line : Type 0 where
@@ -37,6 +38,8 @@ pub data Row : Type 0 where
   wrongText : List ℕ → ℕ → ℕ → ℕ → Row
   -- a text, its settings and its pages
   exampleText : List ℕ → ℕ → ℕ → ℕ → ℕ → List ℕ → Row
+  -- what the replay program reads, and what it writes
+  program : List ℕ → List ℕ → Row
 
 abbrev hitIn : ℕ → Reply
 hitIn s = record { kind = hit; slot = s; out = NONE; cleared = 0 }
@@ -47,54 +50,56 @@ loadedIn s = record { kind = loaded; slot = s; out = NONE; cleared = 0 }
 abbrev swappedIn : ℕ → ℕ → ℕ → Reply
 swappedIn s out n = record { kind = swapped; slot = s; out = out; cleared = n }
 
-abbrev dir : ℕ → ℕ → ℕ → ℕ → Settings
-dir p C f s = record { policy = p; C = C; first = f; second = s }
+-- The input of document 01's whole example.
+abbrev exampleInput : List ℕ
+exampleInput =
+    112 ∷ 111 ∷ 108 ∷ 105 ∷ 99 ∷ 121 ∷ 61 ∷ 49 ∷ 10 ∷ 99 ∷ 97 ∷ 112 ∷ 97 ∷ 99 ∷ 105 ∷ 116 ∷ 121 ∷ 61 ∷ 50 ∷ 10 ∷ 102 ∷ 105 ∷ 114 ∷ 115 ∷ 116 ∷ 61 ∷ 48 ∷ 10 ∷ 115 ∷ 101 ∷ 99 ∷ 111 ∷ 110 ∷ 100 ∷ 61 ∷ 48 ∷ 10 ∷ 99 ∷ 111 ∷ 117 ∷ 110 ∷ 116 ∷ 61 ∷ 52 ∷ 10 ∷ 112 ∷ 97 ∷ 103 ∷ 101 ∷ 61 ∷ 55 ∷ 10 ∷ 112 ∷ 97 ∷ 103 ∷ 101 ∷ 61 ∷ 57 ∷ 10 ∷ 112 ∷ 97 ∷ 103 ∷ 101 ∷ 61 ∷ 55 ∷ 10 ∷ 112 ∷ 97 ∷ 103 ∷ 101 ∷ 61 ∷ 53 ∷ 10 ∷ []
 
 abbrev pub rows : List Row
 rows =
     -- S1
-    directory (dir 1 2 0 0)
+    directory (four 1 2 0 0)
     (ask (7 ∷ 9 ∷ 7 ∷ 5 ∷ [])
     ∷ answers (loadedIn 0 ∷ loadedIn 1 ∷ hitIn 0 ∷ swappedIn 1 9 0 ∷ []) ∷ pages 1 (5 ∷ 7 ∷ []) ∷ [])
     -- S2
     ∷ curveOf 5 (1 ∷ 2 ∷ 3 ∷ 4 ∷ 1 ∷ 2 ∷ 5 ∷ 1 ∷ 2 ∷ 3 ∷ 4 ∷ 5 ∷ []) (0 ∷ 0 ∷ 2 ∷ 4 ∷ 7 ∷ []) (5 ∷ 4 ∷ 3 ∷ 2 ∷ 1 ∷ [])
     -- S3
-    ∷ directory (dir 2 3 0 0) (ask (1 ∷ 2 ∷ 3 ∷ 1 ∷ 4 ∷ 5 ∷ []) ∷ answers (swappedIn 1 2 1 ∷ swappedIn 2 3 0 ∷ []) ∷ stands 6 0 ∷ [])
+    ∷ directory (four 2 3 0 0) (ask (1 ∷ 2 ∷ 3 ∷ 1 ∷ 4 ∷ 5 ∷ []) ∷ answers (swappedIn 1 2 1 ∷ swappedIn 2 3 0 ∷ []) ∷ stands 6 0 ∷ [])
     -- S4
-    ∷ directory (dir 2 2 0 0) (ask (1 ∷ 2 ∷ 1 ∷ 2 ∷ 3 ∷ []) ∷ answers (swappedIn 0 1 2 ∷ []) ∷ stands 6 1 ∷ [])
+    ∷ directory (four 2 2 0 0) (ask (1 ∷ 2 ∷ 1 ∷ 2 ∷ 3 ∷ []) ∷ answers (swappedIn 0 1 2 ∷ []) ∷ stands 6 1 ∷ [])
     -- S5
-    ∷ directory (dir 3 3 1 0) (ask (1 ∷ 2 ∷ 1 ∷ 2 ∷ 3 ∷ 4 ∷ []) ∷ answers (swappedIn 0 1 0 ∷ []) ∷ pages 1 (4 ∷ 3 ∷ []) ∷ pages 2 (2 ∷ []) ∷ [])
+    ∷ directory (four 3 3 1 0) (ask (1 ∷ 2 ∷ 1 ∷ 2 ∷ 3 ∷ 4 ∷ []) ∷ answers (swappedIn 0 1 0 ∷ []) ∷ pages 1 (4 ∷ 3 ∷ []) ∷ pages 2 (2 ∷ []) ∷ [])
     -- S6
-    ∷ directory (dir 4 3 1 2)
+    ∷ directory (four 4 3 1 2)
     (ask (1 ∷ 2 ∷ 3 ∷ 4 ∷ 1 ∷ 4 ∷ 5 ∷ 6 ∷ 4 ∷ 7 ∷ []) ∷ counts 1 3 6 ∷ pages 1 (7 ∷ 6 ∷ []) ∷ pages 2 (4 ∷ []) ∷ pages 3 (5 ∷ 3 ∷ []) ∷ [])
     -- S7
-    ∷ directory (dir 5 2 0 0)
+    ∷ directory (four 5 2 0 0)
     (ask (1 ∷ 2 ∷ 1 ∷ 3 ∷ 2 ∷ []) ∷ pages 1 (3 ∷ []) ∷ pages 2 (2 ∷ []) ∷ pages 3 [] ∷ pages 4 (1 ∷ []) ∷ stands 6 1
     ∷ ask (1 ∷ []) ∷ pages 1 [] ∷ pages 2 (1 ∷ 2 ∷ []) ∷ pages 3 (3 ∷ []) ∷ pages 4 [] ∷ stands 6 0
     ∷ ask (4 ∷ []) ∷ pages 1 (4 ∷ []) ∷ pages 2 (1 ∷ []) ∷ pages 3 (3 ∷ []) ∷ pages 4 (2 ∷ [])
     ∷ ask (5 ∷ []) ∷ pages 1 (5 ∷ []) ∷ pages 2 (1 ∷ []) ∷ pages 3 (4 ∷ []) ∷ pages 4 (2 ∷ []) ∷ [])
     -- S8
-    ∷ directory (dir 5 2 0 0) (ask (1 ∷ 2 ∷ 3 ∷ []) ∷ pages 1 (3 ∷ 2 ∷ []) ∷ pages 2 [] ∷ pages 3 [] ∷ pages 4 [] ∷ [])
+    ∷ directory (four 5 2 0 0) (ask (1 ∷ 2 ∷ 3 ∷ []) ∷ pages 1 (3 ∷ 2 ∷ []) ∷ pages 2 [] ∷ pages 3 [] ∷ pages 4 [] ∷ [])
     -- a tie on p with the page in B2 goes to T1
-    ∷ directory (dir 5 3 0 0)
+    ∷ directory (four 5 3 0 0)
     (ask (6 ∷ 6 ∷ 7 ∷ 8 ∷ 5 ∷ 7 ∷ 8 ∷ 6 ∷ []) ∷ answers (swappedIn 1 5 0 ∷ []) ∷ pages 1 [] ∷ pages 2 (6 ∷ 8 ∷ 7 ∷ []) ∷ pages 3 (5 ∷ []) ∷ pages 4 [] ∷ stands 6 1 ∷ [])
     -- p grows by B2/B1 = 2
-    ∷ directory (dir 5 3 0 0)
+    ∷ directory (four 5 3 0 0)
     (ask (2 ∷ 2 ∷ 6 ∷ 8 ∷ 5 ∷ 5 ∷ 6 ∷ 3 ∷ 1 ∷ 8 ∷ []) ∷ answers (swappedIn 0 6 0 ∷ [])
     ∷ pages 1 (1 ∷ 3 ∷ []) ∷ pages 2 (8 ∷ []) ∷ pages 3 [] ∷ pages 4 (6 ∷ 5 ∷ 2 ∷ []) ∷ stands 6 3 ∷ [])
     -- all four total 2C: the back of B2 goes
-    ∷ directory (dir 5 1 0 0) (ask (1 ∷ 1 ∷ 2 ∷ 2 ∷ 3 ∷ []) ∷ pages 1 (3 ∷ []) ∷ pages 2 [] ∷ pages 3 [] ∷ pages 4 (2 ∷ []) ∷ [])
+    ∷ directory (four 5 1 0 0) (ask (1 ∷ 1 ∷ 2 ∷ 2 ∷ 3 ∷ []) ∷ pages 1 (3 ∷ []) ∷ pages 2 [] ∷ pages 3 [] ∷ pages 4 (2 ∷ []) ∷ [])
     -- a hit in A1in moves nothing
-    ∷ directory (dir 4 2 1 1) (ask (1 ∷ 2 ∷ 1 ∷ []) ∷ answers (hitIn 0 ∷ []) ∷ pages 1 (2 ∷ 1 ∷ []) ∷ [])
+    ∷ directory (four 4 2 1 1) (ask (1 ∷ 2 ∷ 1 ∷ []) ∷ answers (hitIn 0 ∷ []) ∷ pages 1 (2 ∷ 1 ∷ []) ∷ [])
     -- pages 0 and 5 share bucket 0 of four: the new entry is the front of the chain, and the first is behind it
-    ∷ directory (dir 1 3 0 0) (ask (0 ∷ 5 ∷ []) ∷ stands 40 1 ∷ stands 21 4294967295 ∷ stands 29 0 ∷ [])
+    ∷ directory (four 1 3 0 0) (ask (0 ∷ 5 ∷ []) ∷ stands 40 1 ∷ stands 21 4294967295 ∷ stands 29 0 ∷ [])
     -- S9
-    ∷ directory (dir 1 2 0 0) (ask [] ∷ counts 0 0 0 ∷ [])
+    ∷ directory (four 1 2 0 0) (ask [] ∷ counts 0 0 0 ∷ [])
     ∷ curveOf 3 [] (0 ∷ 0 ∷ 0 ∷ []) (4294967295 ∷ 4294967295 ∷ 4294967295 ∷ [])
     -- S10
-    ∷ directory (dir 2 1 0 0) (ask (8 ∷ 8 ∷ 9 ∷ []) ∷ answers (swappedIn 0 8 1 ∷ []) ∷ [])
+    ∷ directory (four 2 1 0 0) (ask (8 ∷ 8 ∷ 9 ∷ []) ∷ answers (swappedIn 0 8 1 ∷ []) ∷ [])
     -- S11
-    ∷ settings (dir 1 512 0 0) 0 ∷ settings (dir 1 513 0 0) 2 ∷ settings (dir 3 1 0 0) 2
+    ∷ settings (four 1 512 0 0) 0 ∷ settings (four 1 513 0 0) 2 ∷ settings (four 3 1 0 0) 2
     -- S12
     ∷ wrongText [] 4 10 1
     -- a leading zero, a value past 4,294,967,295, and a missing byte 10
@@ -102,11 +107,17 @@ rows =
     ∷ wrongText (112 ∷ 111 ∷ 108 ∷ 105 ∷ 99 ∷ 121 ∷ 61 ∷ 52 ∷ 50 ∷ 57 ∷ 52 ∷ 57 ∷ 54 ∷ 55 ∷ 50 ∷ 57 ∷ 54 ∷ 10 ∷ []) 4 10 1
     ∷ wrongText (112 ∷ 111 ∷ 108 ∷ 105 ∷ 99 ∷ 121 ∷ 61 ∷ 52 ∷ 50 ∷ 57 ∷ 52 ∷ 57 ∷ 54 ∷ 55 ∷ 50 ∷ 57 ∷ 53 ∷ 10 ∷ 99 ∷ 97 ∷ 112 ∷ 97 ∷ 99 ∷ 105 ∷ 116 ∷ 121 ∷ 61 ∷ 50 ∷ []) 4 10 2
     -- the whole example, with room for its pages and without; a byte after its end
-    ∷ exampleText
-    (112 ∷ 111 ∷ 108 ∷ 105 ∷ 99 ∷ 121 ∷ 61 ∷ 49 ∷ 10 ∷ 99 ∷ 97 ∷ 112 ∷ 97 ∷ 99 ∷ 105 ∷ 116 ∷ 121 ∷ 61 ∷ 50 ∷ 10 ∷ 102 ∷ 105 ∷ 114 ∷ 115 ∷ 116 ∷ 61 ∷ 48 ∷ 10 ∷ 115 ∷ 101 ∷ 99 ∷ 111 ∷ 110 ∷ 100 ∷ 61 ∷ 48 ∷ 10 ∷ 99 ∷ 111 ∷ 117 ∷ 110 ∷ 116 ∷ 61 ∷ 52 ∷ 10 ∷ 112 ∷ 97 ∷ 103 ∷ 101 ∷ 61 ∷ 55 ∷ 10 ∷ 112 ∷ 97 ∷ 103 ∷ 101 ∷ 61 ∷ 57 ∷ 10 ∷ 112 ∷ 97 ∷ 103 ∷ 101 ∷ 61 ∷ 55 ∷ 10 ∷ 112 ∷ 97 ∷ 103 ∷ 101 ∷ 61 ∷ 53 ∷ 10 ∷ [])
-    1 2 0 0 (7 ∷ 9 ∷ 7 ∷ 5 ∷ [])
+    ∷ exampleText exampleInput 1 2 0 0 (7 ∷ 9 ∷ 7 ∷ 5 ∷ [])
+    -- the replay program on the whole example, on the empty text, and on a capacity of 4,294,967,295
+    ∷ program exampleInput
+    (114 ∷ 101 ∷ 102 ∷ 117 ∷ 115 ∷ 101 ∷ 100 ∷ 61 ∷ 48 ∷ 10 ∷ 108 ∷ 105 ∷ 110 ∷ 101 ∷ 61 ∷ 48 ∷ 10 ∷ 104 ∷ 105 ∷ 116 ∷ 115 ∷ 61 ∷ 49 ∷ 10 ∷ 108 ∷ 111 ∷ 97 ∷ 100 ∷ 115 ∷ 61 ∷ 50 ∷ 10 ∷ 115 ∷ 119 ∷ 97 ∷ 112 ∷ 115 ∷ 61 ∷ 49 ∷ 10 ∷ [])
+    ∷ program []
+    (114 ∷ 101 ∷ 102 ∷ 117 ∷ 115 ∷ 101 ∷ 100 ∷ 61 ∷ 49 ∷ 48 ∷ 10 ∷ 108 ∷ 105 ∷ 110 ∷ 101 ∷ 61 ∷ 49 ∷ 10 ∷ 104 ∷ 105 ∷ 116 ∷ 115 ∷ 61 ∷ 48 ∷ 10 ∷ 108 ∷ 111 ∷ 97 ∷ 100 ∷ 115 ∷ 61 ∷ 48 ∷ 10 ∷ 115 ∷ 119 ∷ 97 ∷ 112 ∷ 115 ∷ 61 ∷ 48 ∷ 10 ∷ [])
+    ∷ program
+    (112 ∷ 111 ∷ 108 ∷ 105 ∷ 99 ∷ 121 ∷ 61 ∷ 49 ∷ 10 ∷ 99 ∷ 97 ∷ 112 ∷ 97 ∷ 99 ∷ 105 ∷ 116 ∷ 121 ∷ 61 ∷ 52 ∷ 50 ∷ 57 ∷ 52 ∷ 57 ∷ 54 ∷ 55 ∷ 50 ∷ 57 ∷ 53 ∷ 10 ∷ 102 ∷ 105 ∷ 114 ∷ 115 ∷ 116 ∷ 61 ∷ 48 ∷ 10 ∷ 115 ∷ 101 ∷ 99 ∷ 111 ∷ 110 ∷ 100 ∷ 61 ∷ 48 ∷ 10 ∷ 99 ∷ 111 ∷ 117 ∷ 110 ∷ 116 ∷ 61 ∷ 48 ∷ 10 ∷ [])
+    (114 ∷ 101 ∷ 102 ∷ 117 ∷ 115 ∷ 101 ∷ 100 ∷ 61 ∷ 50 ∷ 10 ∷ 108 ∷ 105 ∷ 110 ∷ 101 ∷ 61 ∷ 48 ∷ 10 ∷ 104 ∷ 105 ∷ 116 ∷ 115 ∷ 61 ∷ 48 ∷ 10 ∷ 108 ∷ 111 ∷ 97 ∷ 100 ∷ 115 ∷ 61 ∷ 48 ∷ 10 ∷ 115 ∷ 119 ∷ 97 ∷ 112 ∷ 115 ∷ 61 ∷ 48 ∷ 10 ∷ [])
     -- figures: 25 words and 9,232 words, buckets 0 4 1 6
-    ∷ lengthIs (dir 1 1 0 0) 25 ∷ lengthIs (dir 5 512 0 0) 9232
+    ∷ lengthIs (four 1 1 0 0) 25 ∷ lengthIs (four 5 512 0 0) 9232
     ∷ bucketsAre 3 (0 ∷ 1 ∷ 2 ∷ 3 ∷ []) (0 ∷ 4 ∷ 1 ∷ 6 ∷ [])
     ∷ []
 
@@ -201,8 +212,9 @@ holds (lengthIs s n) = eqb (lengthOf s) n
 holds (bucketsAre k ps bs) = same (map (bucketOf k) ps) bs
 holds (wrongText text room n l) = isWrong (readText text room) n l
 holds (exampleText text p c f g trace) = textHolds text p c f g trace
+holds (program text lines) = same (fiveLines (programmed text)) lines
 
 -- Every row holds.
 pub bench : T (all holds rows)
-unfolding openText
+unfolding openProgram
 bench = tt

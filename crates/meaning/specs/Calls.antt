@@ -6,7 +6,7 @@ use lib.ListN.{length, drop}
 use lib.Dec.{eqb, leb, ltb}
 use Rattle.meaning.specs.Base.{if_then_else_, first, series, pad}
 use Rattle.meaning.specs.Neighbours.{NONE, has}
-use Rattle.meaning.specs.Layout.{Settings, longest, mostCapacity, isClock, isList, isHeld, lengthOf, settingsRefusal}
+use Rattle.meaning.specs.Layout.{Settings, four, longest, mostCapacity, isClock, isList, isHeld, lengthOf, settingsRefusal}
 use Rattle.meaning.specs.Mem.{Mem, words, decode, fresh, entryOf, listOn, held, sits}
 use Rattle.meaning.specs.Room.{Kind, hit, loaded, swapped, Reply, Done}
 use Rattle.meaning.specs.Policies.{request}
@@ -152,7 +152,7 @@ replayed ws trace =
 
 -- What a fresh LRU directory of capacity c does with a trace.
 unfoldable pub lruRun : ℕ → List ℕ → Ran
-lruRun c trace = run none (words (fresh (record { policy = 1; C = c; first = 0; second = 0 }))) trace
+lruRun c trace = run none (words (fresh (four 1 c 0 0))) trace
 
 -- The hits of LRU at capacity c.
 unfoldable pub lruHits : List ℕ → ℕ → ℕ

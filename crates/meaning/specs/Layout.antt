@@ -12,6 +12,10 @@ pub record Settings : Type 0 where
   pub first : ℕ
   pub second : ℕ
 
+-- Settings by their four numbers: policy, capacity, first and second.
+abbrev pub four : ℕ → ℕ → ℕ → ℕ → Settings
+four p c f s = record { policy = p; C = c; first = f; second = s }
+
 -- The longest trace in pages, and the longest text in bytes.
 abbrev pub longest : ℕ
 longest = 65535

@@ -13,6 +13,7 @@ pub mod Rules
 pub mod Calls
 pub mod Text
 pub mod Answers
+pub mod Program
 pub mod Places
 pub mod Shape
 pub mod Proper

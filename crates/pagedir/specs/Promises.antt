@@ -6,14 +6,9 @@ use mathlib.Core.List.{List, [], _∷_}
 use lib.ListN.{length}
 use lib.Seq.{sets}
 use Rattle.meaning.specs.Neighbours.{NONE}
-use Rattle.meaning.specs.Layout.{Settings}
 use Rattle.meaning.specs.Room.{Kind, hit, loaded, swapped, Reply}
 use Rattle.meaning.specs.Calls.{Said, refused, gave, Outcome, Counts, Sight, absent, heldIn, remembered, CurveOutcome}
 use Rattle.meaning.specs.Text.{ReadSaid, readRefused, readGave, readText, readSaid, readLeft}
-
--- Settings by their four numbers.
-abbrev pub four : ℕ → ℕ → ℕ → ℕ → Settings
-four p c f s = record { policy = p; C = c; first = f; second = s }
 
 -- The number of a refusal, 0 for none.
 abbrev pub number : {A : Type 0} → Said A → ℕ

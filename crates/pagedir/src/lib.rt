@@ -2,9 +2,10 @@
 ghost use mathlib.Core.Path.{_≡_};
 ghost use Prim.Native.Nat.{_+_, _*_};
 ghost use Rattle.meaning.specs.Base.{one};
+ghost use Rattle.meaning.specs.Layout.{four};
 ghost use Rattle.meaning.specs.Calls.{audited, formed, wordsFor, looked, reported, curved, requested, replayed};
 ghost use Rattle.meaning.specs.Text.{wrote};
-ghost use Rattle.pagedir.specs.Promises.{Told, ToldAnd, Left, CurveIn, ReadIn, single, sightWords, four, replyWords, countWords};
+ghost use Rattle.pagedir.specs.Promises.{Told, ToldAnd, Left, CurveIn, ReadIn, single, sightWords, replyWords, countWords};
 use meaning::Answer;
 use meaning::Curved;
 use meaning::Formed;

@@ -7,7 +7,3 @@ pub mod OfTwoQ
 pub mod OfClock
 pub mod OfArc
 pub mod Requesting
-pub mod Entry
-pub mod Formed
-pub mod Looked
-pub mod Reported

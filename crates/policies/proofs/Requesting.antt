@@ -1,4 +1,4 @@
--- A request on words, from the steps of the policies; and that no second answer meets a promise.
+-- A request on words, from the steps of the policies.
 -- Assumes nothing.
 use Prim.Native.Nat.{ℕ, _≤_, _<_}
 use mathlib.Core.Path.{_≡_, refl, sym, ap, _∙_, subst}
@@ -10,7 +10,7 @@ use lib.Dec.{eqb}
 use lib.ListN.{length}
 use types.Run.{OneOf}
 use denote.Enum.Declared.{tagOf}
-use borrow.Author.Tests.{eq-eqb, ne-eqb, not-true, not-false}
+use borrow.Author.Tests.{eq-eqb, ne-eqb}
 use Rattle.meaning.specs.declared.Answer.{Answer}
 use Rattle.meaning.specs.declared.Answer.the-variants.{Hit, Loaded, Swapped, Refused}
 use Rattle.meaning.specs.declared.SlotFor.{SlotFor}
@@ -31,10 +31,10 @@ use Rattle.meaning.specs.Kept.{Lru, Clock, Segmented, TwoQ, Arc}
 use Rattle.meaning.proofs.Answer.{the-type}
 use Rattle.meaning.proofs.Lists.{split}
 use Rattle.meaning.proofs.Trip.{repr-words}
-use Rattle.meaning.proofs.Injective.{request-settles, slot-settles}
 use Rattle.theorems.proofs.Whole.{lru-whole, clock-whole, segmented-whole, twoQ-whole, arc-whole, request-whole}
 use Rattle.meaning.proofs.Accepted.{accepted}
 use Rattle.sound.proofs.Door.{door}
+use Rattle.sound.proofs.Entry.{is-sound, not-sound}
 use Rattle.meaning.proofs.Back.{whole-sound}
 use Rattle.policies.specs.Steps.{Ends, Serves, asking}
 use Rattle.policies.specs.Requests.{Stepped, Requested, SlotGiven, Refuses}
@@ -155,24 +155,19 @@ module _ (ws : List ℕ) {x : ℕ} (s : sound ws ≡ true) (ex : x ≡ word ws 0
 
 module _ (ws : List ℕ) {b : Bool} (a : b ≡ audited ws) where
   -- 5: the words are not sound
-  pub not-sound : (p : ℕ) → not b ≡ true → Requested ws p (Refused 5) ws
-  unfolding requested onPage refuse audited
-  not-sound p z = let t : sound ws ≡ false = sym a ∙ not-true b z in record { said = sym (simp t); left = sym (simp t) }
-
-  -- what was audited is sound
-  pub is-sound : not b ≡ false → sound ws ≡ true
-  unfolding audited
-  is-sound z = sym a ∙ not-false b z
+  pub unsound : (p : ℕ) → not b ≡ true → Requested ws p (Refused 5) ws
+  unfolding requested onPage refuse
+  unsound p z = let t = not-sound ws a z in record { answer = sym (simp t); memory = sym (simp t) }
 
   -- 6: the page is NONE
   pub no-page : {p : ℕ} → not b ≡ false → p ≡ NONE → Requested ws p (Refused 6) ws
   unfolding requested onPage refuse
-  no-page {p} z y = let t = is-sound z in let u = eq-eqb p NONE y in record { said = sym (simp (t, u)); left = sym (simp (t, u)) }
+  no-page {p} z y = let t = is-sound ws a z in let u = eq-eqb p NONE y in record { answer = sym (simp (t, u)); memory = sym (simp (t, u)) }
 
   -- else the step's answer is the call's
   pub a-page : {p : ℕ} {ws′ : List ℕ} {r : Answer} → not b ≡ false → (p ≡ NONE → ⊥) → Stepped ws p r ws′ → Requested ws p r ws′
   unfolding requested onPage
-  a-page {p} z y S = let t = is-sound z in let u = ne-eqb p NONE y in record { said = S .said ∙ sym (simp (t, u)); left = S .left ∙ sym (simp (t, u)) }
+  a-page {p} z y S = let t = is-sound ws a z in let u = ne-eqb p NONE y in record { answer = S .said ∙ sym (simp (t, u)); memory = S .left ∙ sym (simp (t, u)) }
 
 -- ── The slot ──
 
@@ -193,18 +188,4 @@ never-given a R x = none 3 0 1 2 (omega arith) (omega arith) (omega arith) (subs
 -- the slot of the request's answer is the call's
 pub slot-given : {ws ws′ : List ℕ} {p : ℕ} {a : Answer} {r : SlotFor} → Requested ws p a ws′ → slotSays r ≡ slotOf (requestSays a) → SlotGiven ws p r ws′
 unfolding slotFor
-slot-given Q e = record { said = e ∙ ap slotOf (Q .said); left = Q .left }
-
--- ── No second answer ──
-
--- Two answers to one request, with their words, are equal.
-pub request-once : (ws : List ℕ) (p : ℕ) {r r′ : Answer} {ws₁ ws₂ : List ℕ} → Requested ws p r ws₁ → Requested ws p r′ ws₂ → (r ≡ r′) × (ws₁ ≡ ws₂)
-request-once ws p {r} {r′} a b = (request-settles r r′ (a .said ∙ sym (b .said)), a .left ∙ sym (b .left))
-
--- Two slots for one page, with their words, are equal.
-pub slot-once : (ws : List ℕ) (p : ℕ) {r r′ : SlotFor} {ws₁ ws₂ : List ℕ} → SlotGiven ws p r ws₁ → SlotGiven ws p r′ ws₂ → (r ≡ r′) × (ws₁ ≡ ws₂)
-slot-once ws p {r} {r′} a b = (slot-settles r r′ (a .said ∙ sym (b .said)), a .left ∙ sym (b .left))
-
--- Two answers of a step, with their words, are equal.
-pub step-once : (ws : List ℕ) (p : ℕ) {r r′ : Answer} {ws₁ ws₂ : List ℕ} → Stepped ws p r ws₁ → Stepped ws p r′ ws₂ → (r ≡ r′) × (ws₁ ≡ ws₂)
-step-once ws p {r} {r′} a b = (request-settles r r′ (a .said ∙ sym (b .said)), a .left ∙ sym (b .left))
+slot-given Q e = record { answer = e ∙ ap slotOf (Q .answer); memory = Q .memory }

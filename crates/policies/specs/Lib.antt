@@ -1,5 +1,2 @@
 pub mod Steps
 pub mod Requests
-pub mod Forms
-pub mod Looks
-pub mod Reports

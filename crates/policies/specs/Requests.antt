@@ -22,13 +22,13 @@ pub record Stepped (ws : List ℕ) (page : ℕ) (r : Answer) (ws′ : List ℕ) 
 
 -- A request on any words: its answer, refusals too, and every word afterwards.
 pub record Requested (ws : List ℕ) (page : ℕ) (r : Answer) (ws′ : List ℕ) : Type 0 where
-  pub said : requestSays r ≡ requested ws page .said
-  pub left : ws′ ≡ requested ws page .left
+  pub answer : requestSays r ≡ requested ws page .said
+  pub memory : ws′ ≡ requested ws page .left
 
 -- The slot of a request: its answer, refusals too, and every word afterwards.
 pub record SlotGiven (ws : List ℕ) (page : ℕ) (r : SlotFor) (ws′ : List ℕ) : Type 0 where
-  pub said : slotSays r ≡ slotFor ws page .said
-  pub left : ws′ ≡ slotFor ws page .left
+  pub answer : slotSays r ≡ slotFor ws page .said
+  pub memory : ws′ ≡ slotFor ws page .left
 
 -- The answer is a refusal.
 pub record Refuses (a : Answer) : Type 0 where

@@ -12,7 +12,7 @@ use lib.Seq.{take-all}
 use lib.Dec.{eqb}
 use Rattle.meaning.specs.Base.{if_then_else_, one}
 use Rattle.meaning.specs.Neighbours.{NONE, put, has, remove, ahead, before, Nodup}
-use Rattle.meaning.specs.Layout.{Settings, isHeld, entriesOf}
+use Rattle.meaning.specs.Layout.{Settings, four, isHeld, entriesOf}
 use Rattle.meaning.specs.Mem.{Mem, words, decode, settingsTop, empty, fresh, entryOf, listOn, size, back, held, full, withSlot, withMark, off, push, hang, unhang, toFront, blanked, clear, fill, enter, lowest}
 use Rattle.meaning.specs.Room.{Kind, hit, loaded, swapped, Done, Room, asItIs, putOut, hitAt, load, enters}
 use Rattle.meaning.specs.Lru.{lruRoom, lru}
@@ -310,7 +310,7 @@ follows (p ∷ t) c m L z ps =
 
 -- what LRU of capacity c is formed with
 abbrev pub lruOf : ℕ → Settings
-lruOf c = record { policy = 1; C = c; first = 0; second = 0 }
+lruOf c = four 1 c 0 0
 
 fresh-lru : (c : ℕ) → 1 ≤ c → c ≤ 512 → Lru (fresh (lruOf c))
 unfolding fresh empty settingsTop entriesOf

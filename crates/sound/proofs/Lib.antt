@@ -1,3 +1,4 @@
 pub mod Sizes
 pub mod Rules
 pub mod Door
+pub mod Entry

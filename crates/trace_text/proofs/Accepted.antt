@@ -10,13 +10,14 @@ use Rattle.meaning.specs.Calls.{over}
 use Rattle.meaning.specs.Text.{lineOf, pageLines, headLines, textOf, pageKey, policyKey, capacityKey, firstKey, secondKey, countKey, line, badHead, head, header, firstWrong, Reading, unread, accepted, readText, readSaid, readLeft}
 use Rattle.meaning.specs.declared.ReadText.{ReadText}
 use Rattle.meaning.specs.declared.ReadText.the-variants as reads
+use Rattle.meaning.specs.declared.Written.{Written}
 use Rattle.meaning.specs.declared.Written.the-variants as writes
 use Rattle.trace_text.specs.Contracts.{ReadAs, WrittenAs}
 use Rattle.trace_text.proofs.Lines.{by-lt, by-took, line-complete, line-sound, Words, words-cons, pages-sound, pages-complete, Settings, head-1, head-2, head-3, head-4, head-5, head-6, header-complete, keys, linesThen, keyAfter, NoLine, no-line, is-wrong, Stops}
 use Rattle.trace_text.proofs.Reading.{read-long, read-bad, read-many, read-full, read-wrong, read-all, sets-front}
 use Rattle.trace_text.proofs.Writing.{refuses-many, refuses-short, sends}
 use Rattle.meaning.proofs.Injective.{read-settles}
-use Rattle.trace_text.proofs.Once.{write-once}
+use Rattle.meaning.proofs.Injective.{no-second, write-settles}
 
 -- What an accepted text is: the text of allowed values, within the length limit, with room for its pages.
 pub record Accepts (text : List ℕ) (room p c f g : ℕ) (ps : List ℕ) : Type 0 where
@@ -217,13 +218,17 @@ wrong-exactly text room l = (
 
 -- ── What is written is what is read ──
 
+-- no second answer of `write`
+once : {p c f g : ℕ} {trace before : List ℕ} {r r′ : Written} {after after′ : List ℕ} → WrittenAs p c f g trace before r after → WrittenAs p c f g trace before r′ after′ → (r ≡ r′) × (after ≡ after′)
+once x y = no-second write-settles (x .answer, x .memory) (y .answer, y .memory)
+
 sent : {p c f g n : ℕ} {trace buffer text : List ℕ} → WrittenAs p c f g trace buffer (writes.Length n) text → (n ≡ length (textOf p c f g trace)) × (text ≡ over (textOf p c f g trace) buffer)
 sent {p} {c} {f} {g} {n} {trace} {buffer} w =
     by-lt 65535 (length trace)
-    (λ h _. let q = write-once w (refuses-many p c f g trace buffer h) .0 in let z : _≡_ {A = ℕ} 0 1 = cc in absurd (omega arith))
+    (λ h _. let q = once w (refuses-many p c f g trace buffer h) .0 in let z : _≡_ {A = ℕ} 0 1 = cc in absurd (omega arith))
     (λ few _. by-lt (length buffer) (length (textOf p c f g trace))
-    (λ h _. let q = write-once w (refuses-short p c f g trace buffer few refl h) .0 in let z : _≡_ {A = ℕ} 0 1 = cc in absurd (omega arith))
-    (λ h _. let q = write-once w (sends p c f g trace buffer few refl h refl) in (cc (q .0), q .1 ∙ sets-front buffer (textOf p c f g trace) h)))
+    (λ h _. let q = once w (refuses-short p c f g trace buffer few refl h) .0 in let z : _≡_ {A = ℕ} 0 1 = cc in absurd (omega arith))
+    (λ h _. let q = once w (sends p c f g trace buffer few refl h refl) in (cc (q .0), q .1 ∙ sets-front buffer (textOf p c f g trace) h)))
 
 -- Where `write` gave a length within the limit, `read` of the bytes written, with room, accepts the same settings and stores the same trace.
 pub written-read : {p c f g n : ℕ} {trace buffer text back after : List ℕ} {r : ReadText} → WrittenAs p c f g trace buffer (writes.Length n) text → Settings p c f g → Words trace

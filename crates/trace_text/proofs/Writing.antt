@@ -89,7 +89,8 @@ sets-last l at n h = rw (decimal-one n h)
 abbrev pub Put : List ℕ → ℕ → List ℕ → List ℕ → ℕ → Type 0
 Put l at xs l₁ r = (l₁ ≡ sets l at xs) × (r ≡ at + length xs)
 
-put-step : (l : List ℕ) (at : ℕ) (xs ys : List ℕ) {l₁ : List ℕ} {r : ℕ} → Put l at xs l₁ r → sets l at (xs ++ ys) ≡ sets l₁ r ys
+-- What is written behind bytes xs goes on where they end.
+pub put-step : (l : List ℕ) (at : ℕ) (xs ys : List ℕ) {l₁ : List ℕ} {r : ℕ} → Put l at xs l₁ r → sets l at (xs ++ ys) ≡ sets l₁ r ys
 put-step l at xs ys e = rw (e .0, e .1) (sets-append l at xs ys)
 
 -- A key, a decimal and byte 10 are a line.

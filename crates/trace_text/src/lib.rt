@@ -275,7 +275,7 @@ fn put_decimal(out: &mut [u8], at: usize, v: u32) -> usize
 }
 
 // Writes a line at `at`, and gives where it ends.
-fn put_line(out: &mut [u8], at: usize, key: &[u8], v: u32) -> usize
+pub fn put_line(out: &mut [u8], at: usize, key: &[u8], v: u32) -> usize
     requires { ⌜ at + length (lineOf (now key) v) ≤ length (now out) ⌝ }
     ensures { λ r. ⌜ (now (out .exit) ≡ sets (now (out .entry)) at (lineOf (now (key .entry)) v)) × (r ≡ at + length (lineOf (now (key .entry)) v)) ⌝ }
 {

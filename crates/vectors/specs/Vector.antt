@@ -5,7 +5,7 @@ use mathlib.Core.List.{List, [], _∷_}
 use lib.ListN.{set}
 use lib.Dec.{eqb}
 use Rattle.meaning.specs.Base.{same}
-use Rattle.meaning.specs.Layout.{Settings}
+use Rattle.meaning.specs.Layout.{four}
 use Rattle.meaning.specs.Mem.{words, fresh}
 use Rattle.meaning.specs.Room.{Kind, hit, loaded, swapped, Reply}
 use Rattle.meaning.specs.Rules.{broken}
@@ -43,7 +43,7 @@ follows ws (p ∷ ps) [] last = false
 
 abbrev pub agrees : Trace → Bool
 agrees (trace policy C first second pages answers last) =
-    follows (words (fresh (record { policy = policy; C = C; first = first; second = second }))) pages answers last
+    follows (words (fresh (four policy C first second))) pages answers last
 
 -- Each change breaks the rule that it is said to break first.
 abbrev pub breaks : List ℕ → List ℕ → Bool

@@ -1,11 +1,12 @@
-use Rattle.policies.proofs.Requesting.{not-sound, is-sound, no-page, a-page}
+use Rattle.policies.proofs.Requesting.{unsound, no-page, a-page}
+use Rattle.sound.proofs.Entry.{is-sound}
 use native.Mathlib.Omega.{arith}
 use borrow.Author.Needs.{needs}
 use Rattle.policies.proofs.requests.request.Statement.{statement}
 use Rattle.policies.proofs.requests.request.Tie as tie
 
 returns : tie.Need-returns
-returns c = search (not-sound, needs)
+returns c = search (unsound, needs)
 
 returns-2 : tie.Need-returns-2
 returns-2 c = search (no-page, needs)

@@ -4,7 +4,7 @@ use borrow.Author.Needs.{needs}
 use borrow.Author.Tests.{lt-ltb}
 use mathlib.Core.Path.{_∙_}
 use Rattle.meaning.specs.Neighbours.{NONE}
-use Rattle.policies.proofs.Entry.{is-sound, not-sound}
+use Rattle.sound.proofs.Entry.{is-sound, not-sound}
 use Rattle.replay.proofs.Plain.{has-depth}
 use Rattle.replay.proofs.Answers.{lacks}
 use Rattle.replay.proofs.Turning.{unsound, too-long, unpaged, counts, stands}

@@ -1,0 +1,42 @@
+// Looking at a page: whether it is held, and where.
+ghost use mathlib.Core.Path.{_≡_};
+ghost use mathlib.Core.Bool.{true};
+ghost use Prim.Native.Nat.{_<_};
+ghost use Rattle.meaning.specs.Rules.{sound};
+ghost use Rattle.form_look_report.specs.Looks.{SeenAs, LookedAs};
+use lists::NONE;
+use lists::cell;
+use lists::find;
+use meaning::Found;
+use meaning::Looked;
+use sound::audit;
+
+// Where a page stands in a sound directory: lists 1 and 2 are of held pages, lists 3 and 4 of ghosts.
+fn seen(words: &[u32], page: u32) -> Looked
+    requires { ⌜ (sound (now words) ≡ true) × (page < 4294967295) ⌝ }
+    ensures { λ r. ⌜ SeenAs (now (words .entry)) page r ⌝ }
+{
+    let f = find(words, page);
+    let Found::At(e, _) = f else {
+        return Looked::Absent;
+    };
+    if cell(words, e, 1) < 3 {
+        return Looked::Held {
+            slot: cell(words, e, 2),
+        };
+    }
+    Looked::Remembered
+}
+
+// Whether a page is held, with its slot, or remembered, or absent; refuses 5 and 6, and changes nothing.
+pub fn look(words: &[u32], page: u32) -> Looked
+    ensures { λ r. ⌜ LookedAs (now (words .entry)) page r ⌝ }
+{
+    if !audit(words) {
+        return Looked::Refused { number: 5 };
+    }
+    if page == NONE {
+        return Looked::Refused { number: 6 };
+    }
+    seen(words, page)
+}
