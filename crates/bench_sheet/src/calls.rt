@@ -135,7 +135,7 @@ pub(crate) fn list(name: &[u8], words: &[u32], which: u32) {
     line(name, &result[..n]);
 }
 
-// Writes word 6, the hand or the target, under its name.
+// Writes word 6, the hand or the target, under its name; nothing of words too few to have one.
 pub(crate) fn word_six(name: &[u8], words: &[u32]) {
     if 6 < words.len() {
         line(name, &words[6..7]);
