@@ -14,10 +14,10 @@ use Rattle.meaning.specs.Base.{if_then_else_}
 use Rattle.meaning.specs.Layout.{isList}
 use Rattle.meaning.specs.Mem.{decode}
 use Rattle.meaning.specs.Rules.{sound}
-use Rattle.meaning.specs.Calls.{Said, gave, refused, Outcome, refuse, over, pagesOn, reported}
+use Rattle.meaning.specs.Calls.{gave, refused, Outcome, refuse, over, pagesOn, reported}
 use Rattle.meaning.specs.Answers.{reportSays}
 use Rattle.io.specs.Counts.{Counts}
-use Rattle.policies.specs.Reports.{ReportedAs}
+use Rattle.form_look_report.specs.Reports.{ReportedAs}
 
 -- A report by its three tests: the words are sound, the list is the policy's, the buffer is too short.
 unfoldable outcome : Bool → Bool → Bool → List ℕ → List ℕ → Outcome ℕ

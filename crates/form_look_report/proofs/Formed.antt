@@ -7,9 +7,7 @@ use mathlib.Core.List.{List}
 use lib.Dec.{eqb}
 use lib.ListN.{length}
 use borrow.Author.Tests.{eq-eqb, ne-eqb}
-use Rattle.meaning.specs.declared.Formed.{Formed}
 use Rattle.meaning.specs.declared.Formed.the-variants as formed
-use Rattle.meaning.specs.declared.WordsFor.{WordsFor}
 use Rattle.meaning.specs.declared.WordsFor.the-variants as long
 use Rattle.meaning.specs.Layout.{four, entriesOf, bitsOf, lengthFor, lengthOf, settingsRefusal}
 use Rattle.meaning.specs.Calls.{refused, gave, refuse, refusalOf, formed, wordsFor}

@@ -1,29 +1,26 @@
 -- The answers of `report`.
 -- Assumes nothing.
-use Prim.Native.Nat.{ℕ, zero, suc, _+_, _*_, _-_, _≤_, _<_}
-use mathlib.Core.Path.{_≡_, refl, sym, ap, ap₂, _∙_}
+use Prim.Native.Nat.{ℕ, suc, _+_, _*_, _-_, _≤_, _<_}
+use mathlib.Core.Path.{_≡_, sym, ap, _∙_}
 use mathlib.Core.Bool.{Bool, true, false, not}
-use mathlib.Core.List.{List, _∷_, _++_, map}
+use mathlib.Core.List.{List, _++_, map}
 use native.Mathlib.Omega.{arith}
 use native.Mathlib.Numerals.{add-one}
-use lib.Dec.{eqb, leb}
 use lib.ListN.{length, drop, set, length-map}
 use lib.Seq.{sets, sets-eq}
-use borrow.Author.Tests.{eq-eqb, ne-eqb, eqb-true, leb-true, lt-ltb, le-ltb}
-use Rattle.meaning.specs.declared.Reported.{Reported}
+use borrow.Author.Tests.{eq-eqb, ne-eqb, eqb-true, lt-ltb, le-ltb}
 use Rattle.meaning.specs.declared.Reported.the-variants as report
 use Rattle.meaning.specs.Base.{first, series}
-use Rattle.meaning.specs.Layout.{isClock, isHeld, isList, listsOf}
+use Rattle.meaning.specs.Layout.{isClock, isHeld, isList}
 use Rattle.meaning.specs.Mem.{Mem, word, decode, size, held, sits}
 use Rattle.meaning.specs.Places.{top, cell, page, Repr, Says}
 use Rattle.meaning.specs.Rules.{pageIn, sound}
 use Rattle.meaning.specs.Whole.{Whole}
 use Rattle.meaning.specs.Calls.{gave, refuse, over, pageInSlot, pagesOn, reported}
-use Rattle.meaning.proofs.Lists.{no-true}
-use Rattle.meaning.proofs.Numbers.{by-test, first-hit}
+use Rattle.meaning.proofs.Numbers.{first-hit}
 use Rattle.meaning.proofs.Unique.{below, order-read}
 use Rattle.lists.specs.Told.{Gives, GivesOf, Shorter, Copied}
-use Rattle.meaning.proofs.Numbered.{list-fits, held-used}
+use Rattle.meaning.proofs.Numbered.{held-used}
 use Rattle.meaning.proofs.Series.{length-series, series-same}
 use Rattle.meaning.proofs.Tests.{and-left, and-right, both, yes, no}
 use Rattle.sound.proofs.Door.{door}

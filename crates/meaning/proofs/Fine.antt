@@ -1,15 +1,13 @@
 -- The operations leave a directory fine.
 -- Assumes nothing.
-use Prim.Native.Nat.{ℕ, zero, suc, _+_, _*_, _≤_, _<_}
-use mathlib.Core.Path.{_≡_, refl, sym, ap, _∙_, subst}
-use mathlib.Core.Bool.{Bool, true, false, _&&_, cond}
-use mathlib.Core.List.{List, [], _∷_}
+use Prim.Native.Nat.{ℕ, _≤_, _<_}
+use mathlib.Core.Path.{_≡_, sym, ap, _∙_}
+use mathlib.Core.Bool.{true, false}
 use native.Mathlib.Omega.{arith}
-use lib.Dec.{eqb}
-use borrow.Author.Tests.{eq-eqb, ne-eqb}
-use Rattle.meaning.specs.Neighbours.{NONE, put, has, remove}
+use borrow.Author.Tests.{ne-eqb}
+use Rattle.meaning.specs.Neighbours.{NONE, put, has}
 use Rattle.meaning.specs.Mem.{Mem, home, off, push, hang, unhang, withSlot, withMark, blanked, toFront, clear, fill}
-use Rattle.meaning.specs.Places.{Family, Fine}
+use Rattle.meaning.specs.Places.{Fine}
 use Rattle.meaning.proofs.Lists.{split, eqb-same}
 use Rattle.meaning.proofs.Families.{not-so, leave-has, leave-family, join-has, join-family}
 

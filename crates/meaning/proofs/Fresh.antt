@@ -3,11 +3,10 @@
 use Prim.Native.Nat.{ℕ, zero, suc, _+_, _^_, _≤_}
 use mathlib.Core.Path.{_≡_, refl, sym, ap, _∙_}
 use mathlib.Core.List.{[]}
-use mathlib.Core.Bool.{Bool, true, false}
+use mathlib.Core.Bool.{false}
 use native.Mathlib.Omega.{arith}
-use lib.Dec.{eqb, leb, ltb}
+use lib.Dec.{leb, ltb}
 use borrow.Author.Tests.{ne-eqb, le-ltb}
-use Rattle.meaning.specs.Base.{if_then_else_}
 use Rattle.meaning.specs.Neighbours.{has, Nodup}
 use Rattle.meaning.specs.Layout.{Settings, isHeld, entriesOf, bitsFrom, bitsOf}
 use Rattle.meaning.specs.Mem.{settingsTop, empty, fresh, held}

@@ -6,25 +6,18 @@ use Rattle.meaning.specs.Room.{Kind, hit, loaded, swapped, Reply}
 use Rattle.meaning.specs.Calls.{Said, refused, gave, Sight, absent, heldIn, remembered, Counts}
 use Rattle.meaning.specs.Text.{ReadSaid, readRefused, readGave}
 use Rattle.meaning.specs.Answers.{formSays, lengthSays, requestSays, slotSays, lookSays, reportSays, replaySays, curveSays, readSays, writeSays}
-use Rattle.meaning.specs.declared.Formed.{Formed}
 use Rattle.meaning.specs.declared.Formed.the-variants as formed
-use Rattle.meaning.specs.declared.WordsFor.{WordsFor}
 use Rattle.meaning.specs.declared.WordsFor.the-variants as length
 use Rattle.meaning.specs.declared.Answer.{Answer}
 use Rattle.meaning.specs.declared.Answer.the-variants as answer
-use Rattle.meaning.specs.declared.SlotFor.{SlotFor}
 use Rattle.meaning.specs.declared.SlotFor.the-variants as slot
 use Rattle.meaning.specs.declared.Looked.{Looked}
 use Rattle.meaning.specs.declared.Looked.the-variants as look
-use Rattle.meaning.specs.declared.Reported.{Reported}
 use Rattle.meaning.specs.declared.Reported.the-variants as report
-use Rattle.meaning.specs.declared.Replayed.{Replayed}
 use Rattle.meaning.specs.declared.Replayed.the-variants as replay
-use Rattle.meaning.specs.declared.Curved.{Curved}
 use Rattle.meaning.specs.declared.Curved.the-variants as curve
 use Rattle.meaning.specs.declared.ReadText.{ReadText}
 use Rattle.meaning.specs.declared.ReadText.the-variants as read
-use Rattle.meaning.specs.declared.Written.{Written}
 use Rattle.meaning.specs.declared.Written.the-variants as write
 
 -- No two answers say the same.

@@ -2,11 +2,10 @@
 -- Assumes nothing.
 use Prim.Native.Nat.{ℕ, _≤_}
 use mathlib.Core.Path.{_≡_, sym, _∙_}
-use mathlib.Core.Bool.{Bool, true, false}
+use mathlib.Core.Bool.{true}
 use native.Mathlib.Omega.{arith}
 use lib.Dec.{eqb, leb}
 use borrow.Author.Tests.{leb-true}
-use Rattle.meaning.specs.Base.{if_then_else_}
 use Rattle.meaning.specs.Layout.{listsOf, isList, isHeld}
 use Rattle.meaning.proofs.Lists.{no-true}
 use Rattle.meaning.proofs.Numbers.{by-test}

@@ -1,17 +1,17 @@
 -- Document 01, "Bench sheet": the rows marked *, rows that tell its slips apart, and the figures that it names, as one statement over a list of rows.
 -- Assumes nothing.
-use Prim.Native.Nat.{ℕ, zero, suc, _+_}
-use mathlib.Core.Bool.{Bool, true, false, not, _&&_, _||_}
+use Prim.Native.Nat.{ℕ, _+_}
+use mathlib.Core.Bool.{Bool, true, false, _&&_}
 use mathlib.Core.List.{List, [], _∷_, _++_, map}
 use lib.ListN.{length, replicate}
 use lib.Dec.{T, eqb}
-use Rattle.meaning.specs.Base.{if_then_else_, all, same}
+use Rattle.meaning.specs.Base.{all, same}
 use Rattle.meaning.specs.Neighbours.{NONE}
 use Rattle.meaning.specs.Layout.{Settings, four, bucketOf, lengthOf}
 use Rattle.meaning.specs.Mem.{word, words, decode}
 use Rattle.meaning.specs.Room.{Kind, hit, loaded, swapped, Reply}
 use Rattle.meaning.specs.Rules.{sound}
-use Rattle.meaning.specs.Calls.{Said, refused, gave, Outcome, formed, refusalOf, requested, reported, replayed, Counts, curved, CurveOutcome}
+use Rattle.meaning.specs.Calls.{Said, refused, gave, formed, refusalOf, requested, reported, replayed, Counts, curved}
 use Rattle.meaning.specs.Text.{textOf, Reading, unread, accepted, readText}
 use Rattle.meaning.specs.Program.{openProgram, programmed, fiveLines}
 

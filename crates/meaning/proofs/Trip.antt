@@ -2,22 +2,20 @@
 -- Assumes nothing.
 use Prim.Native.Nat.{ℕ, zero, suc, _+_, _*_, _^_, _≤_, _<_}
 use mathlib.Core.Path.{_≡_, refl, ap, sym, _∙_, fun-ext}
-use mathlib.Core.Bool.{Bool, true, false, _&&_, cond}
+use mathlib.Core.Bool.{true}
 use mathlib.Core.List.{List, [], _∷_, _++_}
 use native.Mathlib.Nat.{le-of-suc-le-suc, not-suc-le-zero, zero-add, add-zero}
 use native.Mathlib.Omega.{arith}
 use lib.ListN.{length, getD, List·getD-append}
 use lib.Seq.{getD-append-add}
-use lib.Dec.{eqb, leb, ltb, lit<}
-use borrow.Author.Tests.{eq-eqb, ne-eqb, lt-ltb, le-ltb, le-leb, lt-leb}
-use Rattle.meaning.specs.Base.{walk, if_then_else_}
-use Rattle.meaning.specs.Neighbours.{NONE, has, behind, ahead, after, before, Nodup}
-use Rattle.meaning.specs.Layout.{bucketOf}
-use Rattle.meaning.specs.Mem.{Mem, home, entryWords, entriesFrom, bucketsFrom, headTail, words, word, field, topOf, listOf, chainOf, decode}
-use Rattle.meaning.specs.Places.{Col, page, list, slot, prev, next, chain, mark, spare, num, Place, top, head, tail, bucket, end, cell, Image, Valid, addr, Holds, image, Family, Fine, Repr}
+use lib.Dec.{lit<}
+use borrow.Author.Tests.{lt-ltb, le-ltb, le-leb, lt-leb}
+use Rattle.meaning.specs.Base.{walk}
+use Rattle.meaning.specs.Neighbours.{NONE, has, after, before}
+use Rattle.meaning.specs.Mem.{Mem, entryWords, entriesFrom, bucketsFrom, headTail, words, field, topOf, listOf, chainOf, decode}
+use Rattle.meaning.specs.Places.{page, list, slot, prev, next, chain, mark, spare, Place, top, head, tail, bucket, end, cell, Valid, addr, Holds, image, Fine, Repr}
 use Rattle.meaning.specs.Shape.{Canonical, Shaped}
-use Rattle.meaning.proofs.Lists.{split, eqb-same, no-true}
-use Rattle.meaning.proofs.Families.{not-so}
+use Rattle.meaning.proofs.Lists.{eqb-same}
 use Rattle.meaning.proofs.Chained.{bucket-lt}
 use Rattle.meaning.proofs.Unique.{below, order-read, chain-read, settles}
 

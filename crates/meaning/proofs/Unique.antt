@@ -2,21 +2,18 @@
 -- Assumes nothing.
 use Prim.Native.Nat.{ℕ, zero, suc, _+_, _*_, _-_, _/_, _%_, _^_, _≤_, _<_}
 use mathlib.Core.Path.{_≡_, refl, sym, ap, _∙_, subst}
-use mathlib.Core.Bool.{Bool, true, false, cond}
 use mathlib.Core.List.{List, [], _∷_, _++_, append-assoc}
-use mathlib.Core.Logic.{_⊎_, inl, inr}
 use native.Mathlib.Omega.{arith}
 use native.Mathlib.Decide.{decLt}
-use lib.Dec.{eqb}
 use lib.ListN.{length, getD}
 use lib.Seq.{ext-getD}
-use borrow.Author.Tests.{ne-eqb, eq-eqb}
-use Rattle.meaning.specs.Neighbours.{NONE, has, behind, after, Nodup}
-use Rattle.meaning.specs.Places.{Col, page, list, slot, prev, next, chain, mark, spare, num, Place, top, head, tail, bucket, end, cell, Image, Valid, addr, Holds, image, Family, Repr, Ready, Turns, Says, Any}
+use borrow.Author.Tests.{ne-eqb}
+use Rattle.meaning.specs.Neighbours.{NONE, has, behind, after}
+use Rattle.meaning.specs.Places.{Col, page, list, slot, prev, next, chain, mark, spare, num, Place, top, head, tail, bucket, end, cell, Image, Valid, addr, Holds, Family, Repr}
 use Rattle.meaning.specs.Mem.{Mem, home}
 use Rattle.meaning.proofs.Chained.{has-mid, behind-at, holes}
 use Rattle.meaning.proofs.Lists.{split}
-use Rattle.meaning.specs.Base.{walk, if_then_else_}
+use Rattle.meaning.specs.Base.{walk}
 
 record Somewhere (n k a : ℕ) : Type 0 where
   place : Place

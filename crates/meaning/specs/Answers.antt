@@ -1,7 +1,7 @@
 -- Document 01's number and values for each case of each answer enum.
 use Prim.Native.Nat.{ℕ}
 use Rattle.meaning.specs.Neighbours.{NONE}
-use Rattle.meaning.specs.Room.{Kind, hit, loaded, swapped, Reply}
+use Rattle.meaning.specs.Room.{hit, loaded, swapped, Reply}
 use Rattle.meaning.specs.Calls.{Said, refused, gave, Sight, absent, heldIn, remembered, Counts}
 use Rattle.meaning.specs.Text.{ReadSaid, readRefused, readGave}
 use Rattle.meaning.specs.declared.Formed.{Formed}

@@ -1,9 +1,8 @@
 -- Small functions on tests, numbers and lists that the other files of specs/ are written with.
 use Prim.Native.Nat.{ℕ, zero, suc, _+_}
-use mathlib.Core.Bool.{Bool, true, false, not, _&&_, _||_}
-use mathlib.Core.List.{List, [], _∷_, _++_, map}
-use lib.ListN.{length, getD}
-use lib.Dec.{eqb, leb, ltb}
+use mathlib.Core.Bool.{Bool, true, false, _&&_, _||_}
+use mathlib.Core.List.{List, [], _∷_}
+use lib.Dec.{eqb}
 
 module _ {ℓ} {A : Type ℓ} where
   infixr 10 if_then_else_

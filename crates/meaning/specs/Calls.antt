@@ -1,6 +1,6 @@
 -- Document 01, "Calls and their refusals": what each call on words says, and the lent words afterwards, on every input. Refusals come first and in document 01's order.
-use Prim.Native.Nat.{ℕ, zero, suc, _+_}
-use mathlib.Core.Bool.{Bool, true, false, not, _&&_, _||_}
+use Prim.Native.Nat.{ℕ, _+_}
+use mathlib.Core.Bool.{Bool, not, _&&_, _||_}
 use mathlib.Core.List.{List, [], _∷_, _++_, map}
 use lib.ListN.{length, drop}
 use lib.Dec.{eqb, leb, ltb}
@@ -8,7 +8,7 @@ use Rattle.meaning.specs.Base.{if_then_else_, first, series, pad}
 use Rattle.meaning.specs.Neighbours.{NONE, has}
 use Rattle.meaning.specs.Layout.{Settings, four, longest, mostCapacity, isClock, isList, isHeld, lengthOf, settingsRefusal}
 use Rattle.meaning.specs.Mem.{Mem, words, decode, fresh, entryOf, listOn, held, sits}
-use Rattle.meaning.specs.Room.{Kind, hit, loaded, swapped, Reply, Done}
+use Rattle.meaning.specs.Room.{Kind, hit, loaded, swapped, Reply}
 use Rattle.meaning.specs.Policies.{request}
 use Rattle.meaning.specs.Rules.{openRules, sound}
 

@@ -1,6 +1,5 @@
 -- Document 01, "The five policies": CLOCK. Its pages are on list 1 by their words, in no order; each entry's slot is its own number; word 6 is the hand.
 use Prim.Native.Nat.{ℕ, zero, suc, _+_}
-use mathlib.Core.Bool.{Bool, true, false}
 use lib.Dec.{eqb}
 use Rattle.meaning.specs.Base.{if_then_else_}
 use Rattle.meaning.specs.Mem.{Mem, entryOf, listOn, full, withWord6, withMark, enterSeat}

@@ -1,8 +1,7 @@
 -- What a step of each policy assumes and leaves, in the form that its proof uses: sizes by the orders, bounds as plain facts.
 use Prim.Native.Nat.{ℕ, _+_, _*_, _≤_, _<_}
 use mathlib.Core.Path.{_≡_}
-use mathlib.Core.List.{List, []}
-use mathlib.Core.Bool.{Bool, true}
+use mathlib.Core.Bool.{true}
 use Rattle.meaning.specs.Neighbours.{NONE}
 use Rattle.meaning.specs.Layout.{isHeld, unit}
 use Rattle.meaning.specs.Mem.{Mem, size}

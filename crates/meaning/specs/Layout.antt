@@ -1,7 +1,6 @@
 -- Document 01, "What is built", "Directory words" and the table of policies: numbers and places, before any directory.
 use Prim.Native.Nat.{ℕ, zero, suc, _+_, _*_, _-_, _/_, _%_, _^_}
-use mathlib.Core.Bool.{Bool, true, false, not, _&&_, _||_}
-use mathlib.Core.List.{List, [], _∷_}
+use mathlib.Core.Bool.{Bool, not, _&&_, _||_}
 use lib.Dec.{eqb, leb, ltb}
 use Rattle.meaning.specs.Base.{if_then_else_}
 

@@ -1,6 +1,5 @@
 -- Document 01, "The five policies": LRU, on list 1.
 use Prim.Native.Nat.{ℕ}
-use mathlib.Core.Bool.{Bool, true, false}
 use lib.Dec.{eqb}
 use Rattle.meaning.specs.Base.{if_then_else_}
 use Rattle.meaning.specs.Mem.{Mem, entryOf, listOn, back, full, toFront}

@@ -1,8 +1,8 @@
 -- The directory as a value, the words that stand for it, and the operations of the lists and the index on it.
 -- Values out of range are canonical: a header word past 6 is 0, an entry past E is free, a list that is none of 1 to 4 and a chain past the buckets are empty.
-use Prim.Native.Nat.{ℕ, zero, suc, _+_, _*_, _-_, _^_}
-use mathlib.Core.Bool.{Bool, true, false, not, _&&_, _||_, cond}
-use mathlib.Core.List.{List, [], _∷_, _++_, map}
+use Prim.Native.Nat.{ℕ, zero, suc, _+_, _^_}
+use mathlib.Core.Bool.{Bool, not, _&&_}
+use mathlib.Core.List.{List, [], _∷_}
 use lib.ListN.{length, getD}
 use lib.Dec.{eqb, leb, ltb}
 use Rattle.meaning.specs.Base.{openBase, if_then_else_, some, tally, first, walk}

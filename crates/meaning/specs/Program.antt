@@ -3,7 +3,7 @@ use Prim.Native.Nat.{ℕ}
 use mathlib.Core.List.{List, [], _∷_, _++_}
 use lib.ListN.{replicate}
 use Rattle.meaning.specs.Layout.{Settings, four}
-use Rattle.meaning.specs.Calls.{Said, refused, gave, Outcome, wordsFor, formed, replayed, Counts, none}
+use Rattle.meaning.specs.Calls.{Said, refused, gave, wordsFor, formed, replayed, Counts, none}
 use Rattle.meaning.specs.Text.{openText, lineOf, Reading, unread, accepted, readText}
 
 -- The pages that the program has room for.

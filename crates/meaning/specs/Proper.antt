@@ -1,9 +1,9 @@
 -- What holds of every directory that requests lead to, whatever its policy. Each part is kept by the operations, and no part names a policy.
 -- Assumes nothing.
-use Prim.Native.Nat.{ℕ, _≤_, _<_}
+use Prim.Native.Nat.{ℕ}
 use mathlib.Core.Path.{_≡_}
 use mathlib.Core.Bool.{Bool, true, false}
-use lib.Dec.{eqb, ltb}
+use lib.Dec.{ltb}
 use Rattle.meaning.specs.Neighbours.{NONE, has}
 use Rattle.meaning.specs.Layout.{isHeld}
 use Rattle.meaning.specs.Mem.{Mem, home, held}

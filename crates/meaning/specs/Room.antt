@@ -1,10 +1,9 @@
 -- What the five policies share: the answer to a request, room for a page, and how a page comes in.
 use Prim.Native.Nat.{ℕ}
-use mathlib.Core.Bool.{Bool, true, false}
 use lib.Dec.{eqb}
 use Rattle.meaning.specs.Base.{if_then_else_}
 use Rattle.meaning.specs.Neighbours.{NONE}
-use Rattle.meaning.specs.Mem.{openMem, Mem, freeSlot, toFront, moveTo, clear, enter}
+use Rattle.meaning.specs.Mem.{openMem, Mem, freeSlot, moveTo, clear, enter}
 
 -- Hit with the slot, Loaded with the slot (a free slot was used), or Swapped with the slot and the page put out; and the marks that the sweep cleared.
 pub data Kind : Type 0 where

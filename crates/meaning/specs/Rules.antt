@@ -1,6 +1,6 @@
 -- Document 01, "Sound means all of these": rules a to h over any words. Each quantifier is over the numbers below some number, and each walk is over one link.
-use Prim.Native.Nat.{ℕ, zero, suc, _+_, _*_, _-_, _^_}
-use mathlib.Core.Bool.{Bool, true, false, not, _&&_, _||_}
+use Prim.Native.Nat.{ℕ, _+_, _*_, _^_}
+use mathlib.Core.Bool.{Bool, true, not, _&&_, _||_}
 use mathlib.Core.List.{List, [], _∷_}
 use lib.ListN.{length, getD}
 use lib.Dec.{eqb, leb, ltb}

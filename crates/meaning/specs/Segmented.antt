@@ -1,6 +1,5 @@
 -- Document 01, "The five policies": segmented LRU. List 1 is probation P, list 2 protected Q; first is the most that Q holds.
 use Prim.Native.Nat.{ℕ}
-use mathlib.Core.Bool.{Bool, true, false}
 use lib.Dec.{eqb, ltb}
 use Rattle.meaning.specs.Base.{if_then_else_}
 use Rattle.meaning.specs.Mem.{Mem, entryOf, listOn, size, back, toFront}

@@ -1,11 +1,11 @@
 -- Document 01, "Trace text": the text that is written, and what reading a text means. A text is a list of bytes.
 use Prim.Native.Nat.{ℕ, zero, suc, _+_, _-_, _*_, _/_, _%_}
-use mathlib.Core.Bool.{Bool, true, false, cond}
+use mathlib.Core.Bool.{cond}
 use mathlib.Core.List.{List, [], _∷_, _++_}
 use lib.ListN.{length}
 use lib.Dec.{ltb, eqb}
 use Rattle.meaning.specs.Layout.{longest}
-use Rattle.meaning.specs.Calls.{openCalls, Said, refused, gave, Outcome, over}
+use Rattle.meaning.specs.Calls.{openCalls, refused, gave, Outcome, over}
 
 -- ── The text of settings and a trace ──
 

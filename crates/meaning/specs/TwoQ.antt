@@ -1,6 +1,6 @@
 -- Document 01, "The five policies": 2Q. List 1 is A1in, list 2 Am, list 3 A1out (ghosts); first is Kin, second is Kout.
 use Prim.Native.Nat.{ℕ}
-use mathlib.Core.Bool.{Bool, true, false, not}
+use mathlib.Core.Bool.{not}
 use lib.Dec.{eqb, ltb}
 use Rattle.meaning.specs.Base.{if_then_else_}
 use Rattle.meaning.specs.Mem.{Mem, entryOf, listOn, size, back, full, off, toFront, clear}

@@ -1,8 +1,8 @@
 -- What rules a to h say, of a directory as a value: the same for every policy, and all that a request may assume and must leave.
 use Prim.Native.Nat.{ℕ, _≤_}
 use mathlib.Core.Path.{_≡_}
-use mathlib.Core.Bool.{Bool, true, false}
-use mathlib.Core.List.{List, []}
+use mathlib.Core.Bool.{true, false}
+use mathlib.Core.List.{[]}
 use lib.Dec.{eqb}
 use Rattle.meaning.specs.Base.{tally}
 use Rattle.meaning.specs.Neighbours.{NONE, has}

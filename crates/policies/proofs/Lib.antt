@@ -1,5 +1,3 @@
-pub mod Rooming
-pub mod Backs
 pub mod Spaces
 pub mod OfLru
 pub mod OfSegmented

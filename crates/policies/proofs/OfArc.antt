@@ -32,10 +32,11 @@ use Rattle.theorems.proofs.Turning.{held1, held2, not3, not4, ghost-turn, out-t
 use Rattle.lists.specs.Asked.{OnList}
 use Rattle.lists.specs.Asked as asked
 use Rattle.lists.specs.Told.{Gives, GivesOf, Answers}
-use Rattle.policies.specs.declared.rooms.Freed.{Freed}
-use Rattle.policies.specs.Steps.{Serves, Frees, asking, filling, entering, returning, hitFront, backOut, backTo, backGone, Lined, HasBack, Then, replacing, fromFirst, Replaces, NotEmpty, Ghost, atEntry, ArcMiss, Row, Under, shortened}
-use Rattle.policies.proofs.Rooming.{frees-as, serves-as, turn-ready, turn-frees, turn-serves}
-use Rattle.policies.proofs.Backs.{back-of, on-list}
+use Rattle.rooms.specs.declared.Freed.{Freed}
+use Rattle.rooms.specs.Rooms.{Serves, Frees, asking, filling, entering, returning, hitFront, backOut, backTo, backGone, Lined, HasBack, Then}
+use Rattle.policies.specs.Steps.{replacing, fromFirst, Replaces, NotEmpty, Ghost, atEntry, ArcMiss, Row, Under, shortened}
+use Rattle.rooms.proofs.Rooming.{frees-as, serves-as, turn-ready, turn-frees, turn-serves}
+use Rattle.rooms.proofs.Backs.{back-of, on-list}
 use Rattle.policies.proofs.Spaces.{lined, all-four, space-in, space-out, space-as, found-entry, hits, found-nothing}
 
 -- ── The target ──

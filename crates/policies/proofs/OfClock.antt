@@ -33,9 +33,10 @@ use Rattle.theorems.proofs.Turning.{held1}
 use Rattle.lists.specs.Asked.{Within, Kept}
 use Rattle.lists.specs.Asked as asked
 use Rattle.lists.specs.Told.{Gives, Answers}
-use Rattle.policies.specs.declared.rooms.Freed.{Freed}
-use Rattle.policies.specs.Steps.{Ends, Serves, Frees, asking, filling, given, loading, outOf, Then, atMark, turned, Rests, Sweeps, Handed, AtHand, handOut, Seats, swapping, sweeping, ClockMiss, ClockFull}
-use Rattle.policies.proofs.Rooming.{frees-as, serves-as, room-serves, says-hit}
+use Rattle.rooms.specs.declared.Freed.{Freed}
+use Rattle.rooms.specs.Rooms.{Ends, Serves, Frees, asking, filling, given, loading, outOf, Then}
+use Rattle.policies.specs.Steps.{atMark, turned, Rests, Sweeps, Handed, AtHand, handOut, Seats, swapping, sweeping, ClockMiss, ClockFull}
+use Rattle.rooms.proofs.Rooming.{frees-as, serves-as, room-serves, says-hit}
 use Rattle.policies.proofs.Spaces.{space-as, found-entry, found-nothing}
 
 -- ── The hand ──

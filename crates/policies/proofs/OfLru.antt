@@ -18,8 +18,8 @@ use Rattle.theorems.proofs.Counts.{unlisted}
 use Rattle.lists.specs.Asked.{OnList}
 use Rattle.lists.specs.Asked as asked
 use Rattle.lists.specs.Told.{Answers}
-use Rattle.policies.specs.Steps.{Serves, asking, filling, entering, hitFront, Lined, Evicts, Then}
-use Rattle.policies.proofs.Rooming.{serves-as}
+use Rattle.rooms.specs.Rooms.{Serves, asking, filling, entering, hitFront, Lined, Evicts, Then}
+use Rattle.rooms.proofs.Rooming.{serves-as}
 use Rattle.policies.proofs.Spaces.{lined, lru-space, hits, found-nothing}
 
 -- an LRU directory has lists

@@ -24,9 +24,10 @@ use Rattle.theorems.proofs.Turning.{held1, held2, not3, not4, front-turn}
 use Rattle.lists.specs.Asked.{OnList}
 use Rattle.lists.specs.Asked as asked
 use Rattle.lists.specs.Told.{GivesOf, Answers}
-use Rattle.policies.specs.Steps.{Serves, asking, filling, entering, hitFront, Lined, Evicts, Then, Fronts, hitSpill}
-use Rattle.policies.proofs.Rooming.{serves-as}
-use Rattle.policies.proofs.Backs.{keeps}
+use Rattle.rooms.specs.Rooms.{Serves, asking, filling, entering, hitFront, Lined, Evicts, Then, Fronts}
+use Rattle.policies.specs.Steps.{hitSpill}
+use Rattle.rooms.proofs.Rooming.{serves-as}
+use Rattle.rooms.proofs.Backs.{keeps}
 use Rattle.policies.proofs.Spaces.{lined, lru-space, is-over, not-over, found-entry, hits, found-nothing}
 
 -- ── Q spills ──

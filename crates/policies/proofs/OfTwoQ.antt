@@ -32,10 +32,10 @@ use Rattle.theorems.proofs.Plain.{plain-returns}
 use Rattle.lists.specs.Asked.{OnList}
 use Rattle.lists.specs.Asked as asked
 use Rattle.lists.specs.Told.{Gives, GivesOf, Answers}
-use Rattle.policies.specs.declared.rooms.Freed.{Freed}
-use Rattle.policies.specs.Steps.{Ends, Serves, Clears, Frees, asking, filling, entering, returning, hitFront, backOut, backTo, backGone, Lined, HasBack, Then}
-use Rattle.policies.proofs.Rooming.{frees-as, serves-as, says-hit}
-use Rattle.policies.proofs.Backs.{back-of, on-list}
+use Rattle.rooms.specs.declared.Freed.{Freed}
+use Rattle.rooms.specs.Rooms.{Ends, Serves, Clears, Frees, asking, filling, entering, returning, hitFront, backOut, backTo, backGone, Lined, HasBack, Then}
+use Rattle.rooms.proofs.Rooming.{frees-as, serves-as, says-hit}
+use Rattle.rooms.proofs.Backs.{back-of, on-list}
 use Rattle.policies.proofs.Spaces.{lined, all-four, space-in, is-over, not-over, Hits, found-entry, hits, found-nothing}
 
 -- ── A1out is trimmed ──

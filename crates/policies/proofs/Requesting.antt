@@ -36,7 +36,7 @@ use Rattle.meaning.proofs.Accepted.{accepted}
 use Rattle.sound.proofs.Door.{door}
 use Rattle.sound.proofs.Entry.{is-sound, not-sound}
 use Rattle.meaning.proofs.Back.{whole-sound}
-use Rattle.policies.specs.Steps.{Ends, Serves, asking}
+use Rattle.rooms.specs.Rooms.{Ends, Serves, asking}
 use Rattle.policies.specs.Requests.{Stepped, Requested, SlotGiven, Refuses}
 
 -- ── The step ──

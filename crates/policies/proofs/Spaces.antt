@@ -29,8 +29,8 @@ use Rattle.lists.specs.Asked.{OnList}
 use Rattle.lists.specs.Asked as asked
 use Rattle.lists.specs.Told.{GivesOf, Answers}
 use Rattle.lists.proofs.Finding.{FoundAt, found-at, FoundNone, found-none}
-use Rattle.policies.specs.Steps.{Lined, HasBack, Evicts, Then}
-use Rattle.policies.proofs.Backs.{back-of, on-list, back-on}
+use Rattle.rooms.specs.Rooms.{Lined, HasBack, Evicts, Then}
+use Rattle.rooms.proofs.Backs.{back-of, on-list, back-on}
 
 -- all that a directory keeps of its pages and lists
 pub lined : {m : Mem} → Proper m → Lined m

@@ -5,14 +5,15 @@ ghost use Rattle.meaning.specs.Places.{Ready, Turns, Says};
 ghost use Rattle.meaning.specs.Kept.{Clock};
 ghost use Rattle.lists.specs.Asked.{Room};
 ghost use Rattle.lists.specs.Told.{Gives};
-ghost use Rattle.policies.specs.Steps.{Serves, asking, filling, given, Then, atMark, turned, Sweeps, Handed, AtHand, handOut, Seats, swapping, sweeping, ClockMiss, ClockFull};
-use crate::rooms::Freed;
-use crate::rooms::answer;
-use crate::rooms::as_it_is;
-use crate::rooms::full;
-use crate::rooms::put_out;
+ghost use Rattle.rooms.specs.Rooms.{Serves, asking, filling, given, Then};
+ghost use Rattle.policies.specs.Steps.{atMark, turned, Sweeps, Handed, AtHand, handOut, Seats, swapping, sweeping, ClockMiss, ClockFull};
 use meaning::Answer;
 use meaning::Found;
+use rooms::Freed;
+use rooms::answer;
+use rooms::as_it_is;
+use rooms::full;
+use rooms::put_out;
 
 // Advances the hand: C-1 goes to 0.
 fn advance(words: &mut [u32])

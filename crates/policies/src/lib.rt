@@ -1,9 +1,8 @@
-// The calls on a directory of pages, over five policies: a module for each policy, and one for what they share.
+// The calls on a directory of pages, over five policies: a module for each policy, and one for the calls that ask for a page.
 mod arc;
 mod clock;
 mod lru;
 mod requests;
-mod rooms;
 mod segmented;
 mod two_q;
 

@@ -3,11 +3,11 @@ ghost use Prim.Native.Nat.{_<_};
 ghost use Rattle.meaning.specs.Lru.{lru};
 ghost use Rattle.meaning.specs.Places.{Ready};
 ghost use Rattle.meaning.specs.Kept.{Lru};
-ghost use Rattle.policies.specs.Steps.{Serves, asking};
-use crate::rooms::enter_lru;
-use crate::rooms::hit_front;
+ghost use Rattle.rooms.specs.Rooms.{Serves, asking};
 use meaning::Answer;
 use meaning::Found;
+use rooms::enter_lru;
+use rooms::hit_front;
 
 // Held: to the front. Else make room; the page enters at the front.
 pub(crate) fn lru_step(words: &mut [u32], page: u32) -> Answer

@@ -3,11 +3,12 @@ ghost use Prim.Native.Nat.{_<_};
 ghost use Rattle.meaning.specs.Segmented.{spill, segmented};
 ghost use Rattle.meaning.specs.Places.{Ready, Turns};
 ghost use Rattle.meaning.specs.Kept.{Segmented};
-ghost use Rattle.policies.specs.Steps.{Serves, asking, Lined, Fronts, hitSpill};
-use crate::rooms::enter_lru;
-use crate::rooms::hit_front;
+ghost use Rattle.rooms.specs.Rooms.{Serves, asking, Lined, Fronts};
+ghost use Rattle.policies.specs.Steps.{hitSpill};
 use meaning::Answer;
 use meaning::Found;
+use rooms::enter_lru;
+use rooms::hit_front;
 
 // If Q is now over first, its back goes to the front of P.
 fn spill(words: &mut [u32])

@@ -5,18 +5,18 @@ ghost use Rattle.meaning.specs.Places.{Ready, Turns};
 ghost use Rattle.meaning.specs.Kept.{TwoQ};
 ghost use Rattle.theorems.specs.Plain.{plainRoom};
 ghost use Rattle.lists.specs.Asked.{OnList, Room};
-ghost use Rattle.policies.specs.Steps.{Serves, Frees, asking, filling, entering, returning, Lined, Then};
-use crate::rooms::Freed;
-use crate::rooms::as_it_is;
-use crate::rooms::enters;
-use crate::rooms::full;
-use crate::rooms::hit_front;
-use crate::rooms::put_out_back;
-use crate::rooms::put_out_back_to;
-use crate::rooms::remove_back;
-use crate::rooms::returns;
+ghost use Rattle.rooms.specs.Rooms.{Serves, Frees, asking, filling, entering, returning, Lined, Then};
 use meaning::Answer;
 use meaning::Found;
+use rooms::Freed;
+use rooms::as_it_is;
+use rooms::enters;
+use rooms::full;
+use rooms::hit_front;
+use rooms::put_out_back;
+use rooms::put_out_back_to;
+use rooms::remove_back;
+use rooms::returns;
 
 // If A1out is over Kout its back is removed.
 fn trim(words: &mut [u32])

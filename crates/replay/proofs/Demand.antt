@@ -1,7 +1,6 @@
 -- Demand 3: for each capacity up to the largest, what `curve` leaves is what a fresh LRU directory of that capacity counts and then holds. Assumes nothing.
 use Prim.Native.Nat.{ℕ, _+_, _-_, _≤_}
 use mathlib.Core.Path.{_≡_, sym, ap, _∙_}
-use mathlib.Core.Bool.{true}
 use mathlib.Core.List.{List}
 use native.Mathlib.Omega.{arith}
 use borrow.Author.Tests.{le-ltb, le-leb, eq-eqb}
@@ -9,9 +8,8 @@ use lib.ListN.{length, take, drop, getD, List·getD-append}
 use lib.Seq.{take-append-le}
 use Rattle.meaning.specs.Base.{series, pad}
 use Rattle.meaning.specs.Neighbours.{NONE}
-use Rattle.meaning.specs.Layout.{Settings, isSplit, leastCapacity, firstFits, secondFits, settingsRefusal, lengthOf}
+use Rattle.meaning.specs.Layout.{isSplit, leastCapacity, firstFits, secondFits, settingsRefusal, lengthOf}
 use Rattle.meaning.specs.Mem.{words, decode, fresh}
-use Rattle.meaning.specs.Rules.{sound}
 use Rattle.meaning.specs.Ram.{Pages}
 use Rattle.meaning.specs.Calls.{gave, Outcome, over, refusalOf, formed, pagesOn, Counts, ran, replayed, lruRun, lruHits, lruPages, CurveOutcome, curved}
 use Rattle.meaning.specs.declared.Curved.{Curved}

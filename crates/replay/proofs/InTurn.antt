@@ -1,19 +1,18 @@
 -- Replay is the public request, in turn, and its three counts add up to the trace's length.
 -- Assumes nothing.
-use Prim.Native.Nat.{ℕ, suc, _+_, _<_}
+use Prim.Native.Nat.{ℕ, _+_, _<_}
 use mathlib.Core.Path.{_≡_, refl, sym, ap, _∙_}
-use mathlib.Core.Bool.{Bool, true, false, not}
+use mathlib.Core.Bool.{true}
 use mathlib.Core.List.{List, [], _∷_}
 use native.Mathlib.Omega.{arith}
 use lib.ListN.{length}
-use lib.Dec.{eqb}
 use borrow.Author.Tests.{ne-eqb}
 use Rattle.meaning.specs.Neighbours.{NONE}
 use Rattle.meaning.specs.Mem.{words, decode}
 use Rattle.meaning.specs.Room.{Kind, hit, loaded, swapped, Reply}
 use Rattle.meaning.specs.Policies.{request}
 use Rattle.meaning.specs.Rules.{sound}
-use Rattle.meaning.specs.Calls.{Outcome, Counts, none, counted, answered, onPage, requested, Ran, run}
+use Rattle.meaning.specs.Calls.{Outcome, Counts, none, counted, answered, onPage, requested, run}
 use Rattle.meaning.specs.Ram.{Pages}
 use Rattle.meaning.proofs.Back.{whole-sound}
 use Rattle.sound.proofs.Door.{door}

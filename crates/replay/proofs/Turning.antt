@@ -1,25 +1,22 @@
 -- Requests in turn: what one more request does to the counts and to what is left of a trace.
 -- Assumes nothing.
 use Prim.Native.Nat.{ℕ, zero, suc, _+_, _≤_, _<_}
-use mathlib.Core.Path.{_≡_, refl, sym, ap, _∙_, subst}
-use mathlib.Core.Bool.{Bool, true, false, not}
+use mathlib.Core.Path.{_≡_, refl, sym, ap, _∙_}
+use mathlib.Core.Bool.{true, false}
 use mathlib.Core.List.{List, [], _∷_}
 use native.Mathlib.Omega.{arith}
 use native.Mathlib.Numerals.{add-one}
-use lib.Dec.{eqb, ltb}
 use lib.ListN.{length, drop, getD, drop-of-length-le}
 use lib.Seq.{drop-cons}
 use borrow.Author.Tests.{lt-ltb, le-ltb}
 use Rattle.meaning.specs.Neighbours.{NONE, has}
 use Rattle.meaning.proofs.Lists.{split, no-true}
-use Rattle.meaning.specs.Mem.{words, decode}
-use Rattle.meaning.specs.Room.{Reply, Done}
+use Rattle.meaning.specs.Mem.{decode}
 use Rattle.meaning.specs.Policies.{request}
 use Rattle.meaning.specs.Rules.{sound}
-use Rattle.meaning.specs.Calls.{Said, refused, gave, Outcome, Counts, none, counted, answered, refuse, Ran, run, ran, audited, replayed}
+use Rattle.meaning.specs.Calls.{gave, Outcome, Counts, none, counted, answered, refuse, Ran, run, ran, replayed}
 use Rattle.meaning.specs.Answers.{requestSays, replaySays}
 use Rattle.meaning.specs.declared.Answer.{Answer}
-use Rattle.meaning.specs.declared.Answer.the-variants.{Hit, Loaded, Swapped}
 use Rattle.meaning.specs.declared.Answer.the-variants as answer
 use Rattle.meaning.specs.declared.Replayed.{Replayed}
 use Rattle.meaning.specs.declared.Replayed.the-variants as replays

@@ -4,7 +4,7 @@ use Prim.Native.Nat.{ℕ, _+_}
 use mathlib.Core.Path.{_≡_}
 use mathlib.Core.List.{List, [], _∷_}
 use Rattle.meaning.specs.Room.{Reply}
-use Rattle.meaning.specs.Calls.{Said, refused, gave, Outcome, Counts, none, counted, Ran, run, replayed, requested}
+use Rattle.meaning.specs.Calls.{Said, refused, gave, Counts, none, counted, Ran, run, replayed, requested}
 use Rattle.meaning.specs.Answers.{replaySays}
 use Rattle.meaning.specs.declared.Replayed.{Replayed}
 use Rattle.replay.specs.declared.in_turn.Tally.{Tally}

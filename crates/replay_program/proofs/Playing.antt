@@ -1,9 +1,9 @@
 -- The program's steps, from the promises of the calls that they make.
 -- Assumes nothing.
-use Prim.Native.Nat.{ℕ, _+_, _^_, _≤_}
+use Prim.Native.Nat.{ℕ, _≤_}
 use mathlib.Core.Path.{_≡_, refl, sym, ap, _∙_}
 use mathlib.Core.Bool.{Bool, true, false}
-use mathlib.Core.List.{List, _++_}
+use mathlib.Core.List.{List}
 use native.Mathlib.Omega.{arith}
 use lib.Dec.{eqb}
 use borrow.Author.Tests.{eqb-true}
@@ -19,7 +19,7 @@ use Rattle.meaning.specs.declared.ReadText.{ReadText}
 use Rattle.meaning.specs.declared.ReadText.the-variants as reads
 use Rattle.meaning.specs.Layout.{Settings, four, entriesOf, bitsOf, lengthFor, lengthOf, settingsRefusal}
 use Rattle.meaning.specs.Calls.{Said, refused, gave, Counts, refuse, refusalOf, formed as form, wordsFor, over}
-use Rattle.meaning.specs.Text.{Reading, unread, accepted, readText, ReadSaid, readRefused, readGave, readSaid, readLeft}
+use Rattle.meaning.specs.Text.{Reading, unread, accepted, readText, readRefused, readGave, readSaid, readLeft}
 use Rattle.meaning.specs.Program.{Five, ended, onward, replayIn, formIn, playIn, programRoom, afterRead, programmed}
 use Rattle.meaning.specs.Answers.{replaySays, formSays, lengthSays, readSays}
 use Rattle.meaning.proofs.Accepted.{few-entries}

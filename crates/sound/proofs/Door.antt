@@ -5,11 +5,11 @@ use mathlib.Core.List.{List, [], _∷_}
 use Prim.Native.Nat.{ℕ, _+_, _^_, _≤_, _<_, zero-le}
 use native.Mathlib.Omega.{arith}
 use lib.ListN.{getD}
-use lib.Dec.{eqb, leb, lit<}
-use borrow.Author.Tests.{eq-eqb, eqb-true, eqb-false, ne-eqb, ltb-true, lt-ltb, le-ltb, leb-true, le-leb, lt-leb, not-true}
+use lib.Dec.{eqb, lit<}
+use borrow.Author.Tests.{eq-eqb, eqb-true, eqb-false, ne-eqb, ltb-true, lt-ltb, le-ltb, le-leb, lt-leb, not-true}
 use Rattle.meaning.specs.Base.{first, tally}
 use Rattle.meaning.specs.Neighbours.{NONE, has, ahead, after, before, Nodup}
-use Rattle.meaning.specs.Layout.{isClock, isList, isHeld, listsOf, bucketOf, cellAt, headAt, tailAt, bucketAt}
+use Rattle.meaning.specs.Layout.{isClock, isHeld, bucketOf, cellAt, headAt, tailAt, bucketAt}
 use Rattle.meaning.specs.Mem.{word, words, field, topOf, listOf, chainOf, decode, held, sits}
 use Rattle.meaning.specs.Places.{Place, top, head, tail, bucket, end, cell, page, list, slot, prev, next, chain, mark, spare, Valid, addr, image, bwd, fwd, Fine, Repr}
 use Rattle.meaning.specs.Shape.{Canonical}

@@ -4,7 +4,7 @@ ghost use mathlib.Core.Bool.{true};
 ghost use Prim.Native.Nat.{_+_, _*_, _^_, _≤_, _<_};
 ghost use lib.ListN.{length, getD};
 ghost use Rattle.meaning.specs.Base.{every, if_then_else_};
-ghost use Rattle.meaning.specs.Layout.{listsOf, isSplit, entriesOf, bitsOf, lengthFor, leastCapacity, firstFits, secondFits, settingsRefusal, bucketOf, bucketAt};
+ghost use Rattle.meaning.specs.Layout.{listsOf, isSplit, entriesOf, bitsOf, lengthFor, leastCapacity, firstFits, secondFits, settingsRefusal, bucketAt};
 ghost use Rattle.meaning.specs.Rules.{used, holds, count, ruleA, word6Fits, ruleB, isFree, isTaken, entryRight, ruleC, listRight, clockRight, endNone, ruleD, unlike, pageNew, ruleE, slotRight, ruleF, bucketIn, ofBucket, chainRight, chained, ruleG, arcSizes, sizesRight, ruleH, broken};
 ghost use Rattle.meaning.specs.Calls.{audited};
 ghost use Rattle.sound.specs.Sized.{Sized};

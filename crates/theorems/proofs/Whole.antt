@@ -7,8 +7,8 @@ use native.Mathlib.Omega.{arith}
 use lib.Dec.{eqb, leb, ltb}
 use borrow.Author.Tests.{eq-eqb, ne-eqb, le-leb, lt-ltb, leb-true, ltb-true, eqb-true}
 use Rattle.meaning.specs.Neighbours.{NONE, has}
-use Rattle.meaning.specs.Layout.{Settings, isHeld, isClock, listsOf, isList, isSplit, entriesOf, leastCapacity, firstFits, secondFits, settingsRefusal, markLimit, unit}
-use Rattle.meaning.specs.Mem.{Mem, held, size, settingsTop, empty, fresh}
+use Rattle.meaning.specs.Layout.{isHeld, isClock, listsOf, isList, isSplit, entriesOf, leastCapacity, firstFits, markLimit, unit}
+use Rattle.meaning.specs.Mem.{Mem, held, size}
 use Rattle.meaning.specs.Clock.{clock}
 use Rattle.meaning.specs.Policies.{request}
 use Rattle.meaning.specs.Rules.{word6Fits, arcSizes, sizesRight}

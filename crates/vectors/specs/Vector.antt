@@ -9,7 +9,7 @@ use Rattle.meaning.specs.Layout.{four}
 use Rattle.meaning.specs.Mem.{words, fresh}
 use Rattle.meaning.specs.Room.{Kind, hit, loaded, swapped, Reply}
 use Rattle.meaning.specs.Rules.{broken}
-use Rattle.meaning.specs.Calls.{Said, refused, gave, Outcome, requested}
+use Rattle.meaning.specs.Calls.{Said, refused, gave, requested}
 
 -- Policy, capacity, first and second; the pages asked for; four numbers an answer (1 hit, 2 loaded, 3 swapped; slot; page put out or NONE; marks cleared); the last words.
 pub data Trace : Type 0 where

@@ -1,4 +1,4 @@
-use Rattle.policies.proofs.Rooming.{room-ready, room-serves}
+use Rattle.rooms.proofs.Rooming.{room-ready, room-serves}
 use borrow.Author.Needs.{needs}
 use Rattle.policies.proofs.arc.return_t2.Statement.{statement}
 use Rattle.policies.proofs.arc.return_t2.Tie as tie

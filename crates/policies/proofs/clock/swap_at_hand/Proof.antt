@@ -1,5 +1,5 @@
 use Rattle.policies.proofs.OfClock.{hand-kept, hand-frees}
-use Rattle.policies.proofs.Rooming.{room-ready, room-serves}
+use Rattle.rooms.proofs.Rooming.{room-ready, room-serves}
 use borrow.Author.Needs.{needs}
 use Rattle.policies.proofs.clock.swap_at_hand.Statement.{statement}
 use Rattle.policies.proofs.clock.swap_at_hand.Tie as tie

@@ -1,4 +1,4 @@
-use Rattle.policies.proofs.Rooming.{room-ready, room-serves}
+use Rattle.rooms.proofs.Rooming.{room-ready, room-serves}
 use borrow.Author.Needs.{needs}
 use Rattle.policies.proofs.two_q.enter_a1in.Statement.{statement}
 use Rattle.policies.proofs.two_q.enter_a1in.Tie as tie

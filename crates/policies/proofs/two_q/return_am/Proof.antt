@@ -1,4 +1,4 @@
-use Rattle.policies.proofs.Rooming.{room-ready, room-serves}
+use Rattle.rooms.proofs.Rooming.{room-ready, room-serves}
 use borrow.Author.Needs.{needs}
 use Rattle.policies.proofs.two_q.return_am.Statement.{statement}
 use Rattle.policies.proofs.two_q.return_am.Tie as tie

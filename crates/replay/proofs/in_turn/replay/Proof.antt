@@ -1,11 +1,7 @@
 -- `replay` meets its contract: each refusal from the tests that led to it, and the rest from `run`. Assumes nothing.
 use native.Mathlib.Omega.{arith}
 use borrow.Author.Needs.{needs}
-use borrow.Author.Tests.{lt-ltb}
-use mathlib.Core.Path.{_∙_}
-use Rattle.meaning.specs.Neighbours.{NONE}
 use Rattle.sound.proofs.Entry.{is-sound, not-sound}
-use Rattle.replay.proofs.Plain.{has-depth}
 use Rattle.replay.proofs.Answers.{lacks}
 use Rattle.replay.proofs.Turning.{unsound, too-long, unpaged, counts, stands}
 use Rattle.replay.proofs.in_turn.replay.Statement.{statement}
