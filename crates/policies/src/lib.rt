@@ -1,10 +1,5 @@
-// The calls on a directory of pages, over five policies: a module for each policy, and one for the calls that ask for a page.
-mod arc;
-mod clock;
-mod lru;
+// The calls on a directory of pages, over five policies, each a crate of its own.
 mod requests;
-mod segmented;
-mod two_q;
 
 pub use form_look_report::form;
 pub use form_look_report::look;

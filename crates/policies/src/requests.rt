@@ -6,13 +6,13 @@ ghost use Rattle.meaning.specs.Rules.{sound};
 ghost use Rattle.meaning.specs.Calls.{slotOf};
 ghost use Rattle.meaning.specs.Answers.{requestSays, slotSays};
 ghost use Rattle.policies.specs.Requests.{Stepped, Requested, SlotGiven, Refuses};
-use crate::arc::arc_step;
-use crate::clock::clock_step;
-use crate::lru::lru_step;
-use crate::segmented::segmented_step;
-use crate::two_q::two_q_step;
+use arc::arc_step;
+use clock::clock_step;
+use lru::lru_step;
 use meaning::Answer;
 use meaning::SlotFor;
+use segmented::segmented_step;
+use two_q::two_q_step;
 
 // A request on a sound directory, by the policy in word 0.
 pub fn step(words: &mut [u32], page: u32) -> Answer

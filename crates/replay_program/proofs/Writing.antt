@@ -9,8 +9,7 @@ use lib.Seq.{sets, take-append-seam}
 use Rattle.meaning.specs.Calls.{over}
 use Rattle.meaning.specs.Text.{lineOf}
 use Rattle.meaning.specs.Program.{Five, refusedKey, lineKey, hitsKey, loadsKey, swapsKey, fiveLines}
-use Rattle.trace_text.proofs.Writing.{Put, put-step, line-length, decimal-short}
-use Rattle.trace_text.proofs.Reading.{sets-front}
+use Rattle.text_lines.proofs.Writing.{Put, put-step, line-length, decimal-short, sets-front}
 
 -- A line takes at most eleven bytes besides its key.
 pub line-short : (key : List ℕ) (v : ℕ) → v ≤ 4294967295 → length (lineOf key v) ≤ length key + 11

@@ -1,5 +1,6 @@
 -- What the program's own record of five numbers says.
 use Rattle.meaning.specs.Program.{Five}
+use Rattle.replay_program.specs.declared.Five.{Five as Numbers}
 
 -- The numbers of the five lines.
 abbrev pub fiveOf : Numbers → Five

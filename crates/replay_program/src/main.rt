@@ -122,11 +122,11 @@ fn replay_text(text: &[u8], trace: &mut [u32], words: &mut [u32]) -> Five
 fn write_five(r: Five, out: &mut [u8; 96]) -> usize
     ensures { λ n. ⌜ (take n (now (out .exit)) ≡ fiveLines (fiveOf r)) × (n ≤ length (now (out .exit))) ⌝ }
 {
-    let a = trace_text::put_line(out, 0, b"refused=", r.refused);
-    let b = trace_text::put_line(out, a, b"line=", r.line);
-    let c = trace_text::put_line(out, b, b"hits=", r.hits);
-    let d = trace_text::put_line(out, c, b"loads=", r.loads);
-    trace_text::put_line(out, d, b"swaps=", r.swaps)
+    let a = text_lines::put_line(out, 0, b"refused=", r.refused);
+    let b = text_lines::put_line(out, a, b"line=", r.line);
+    let c = text_lines::put_line(out, b, b"hits=", r.hits);
+    let d = text_lines::put_line(out, c, b"loads=", r.loads);
+    text_lines::put_line(out, d, b"swaps=", r.swaps)
 }
 
 // Reads standard input as far as the byte that makes a text too long, and writes the five lines.

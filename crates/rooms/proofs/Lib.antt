@@ -1,2 +1,3 @@
 pub mod Rooming
 pub mod Backs
+pub mod Spaces

@@ -13,8 +13,10 @@ use Rattle.meaning.specs.declared.ReadText.the-variants as reads
 use Rattle.meaning.specs.declared.Written.{Written}
 use Rattle.meaning.specs.declared.Written.the-variants as writes
 use Rattle.trace_text.specs.Contracts.{ReadAs, WrittenAs}
-use Rattle.trace_text.proofs.Lines.{by-lt, by-took, line-complete, line-sound, Words, words-cons, pages-sound, pages-complete, Settings, head-1, head-2, head-3, head-4, head-5, head-6, header-complete, keys, linesThen, keyAfter, NoLine, no-line, is-wrong, Stops}
-use Rattle.trace_text.proofs.Reading.{read-long, read-bad, read-many, read-full, read-wrong, read-all, sets-front}
+use Rattle.text_lines.proofs.Lines.{by-lt, by-took, line-complete, line-sound}
+use Rattle.trace_text.proofs.Lines.{Words, words-cons, pages-sound, pages-complete, Settings, head-1, head-2, head-3, head-4, head-5, head-6, header-complete, keys, linesThen, keyAfter, NoLine, no-line, is-wrong, Stops}
+use Rattle.text_lines.proofs.Writing.{sets-front}
+use Rattle.trace_text.proofs.Reading.{read-long, read-bad, read-many, read-full, read-wrong, read-all}
 use Rattle.trace_text.proofs.Writing.{refuses-many, refuses-short, sends}
 use Rattle.meaning.proofs.Injective.{read-settles}
 use Rattle.meaning.proofs.Injective.{no-second, write-settles}

@@ -3,18 +3,19 @@ use Prim.Native.Nat.{ℕ, zero, suc, _+_, _-_, _≤_, _<_}
 use mathlib.Core.Path.{_≡_, refl, sym, ap, _∙_}
 use mathlib.Core.List.{List}
 use lib.ListN.{length, drop, set}
-use lib.Seq.{sets, sets-eq}
+use lib.Seq.{sets}
 use borrow.Author.Tests.{lt-ltb, le-ltb}
 use native.Mathlib.Numerals.{add-one}
-use native.Mathlib.Nat.{zero-add}
 use native.Mathlib.Omega.{arith}
-use Rattle.meaning.specs.Calls.{over}
 use Rattle.meaning.specs.Text.{pageKey, Took, wrong, right, line, Header, badHead, head, header, firstWrong, pagesIn, Reading, unread, accepted, readText, readGave, readSaid, readLeft}
 use Rattle.meaning.specs.declared.ReadText.the-variants as reads
-use Rattle.trace_text.specs.declared.Line.{Line}
+use Rattle.text_lines.specs.declared.Line.{Line}
 use Rattle.trace_text.specs.declared.Head.{Head}
-use Rattle.trace_text.specs.Contracts.{tookOf, headOf, ReadAs}
-use Rattle.trace_text.proofs.Lines.{turn, done, pages-sound}
+use Rattle.trace_text.specs.Contracts.{headOf, ReadAs}
+use Rattle.text_lines.specs.Lines.{tookOf}
+use Rattle.text_lines.proofs.Lines.{turn, done}
+use Rattle.trace_text.proofs.Lines.{pages-sound}
+use Rattle.text_lines.proofs.Writing.{sets-front}
 
 -- What a callee found, by the case that its answer is.
 pub met : (text : List ℕ) {r r′ : Line} {t : Took} → tookOf text r ≡ t → r ≡ r′ → t ≡ tookOf text r′
@@ -62,11 +63,6 @@ module _ (n i : ℕ) (s : List ℕ) (at : ℕ) (h : n ≤ i) (h′ : i ≤ n) wh
   -- All are passed, and the text ends.
   pub none-wrong : length s ≤ at → 0 ≡ firstWrong (n - i) (6 + i) (drop at s)
   none-wrong k = let e : n - i ≡ 0 = omega arith in simp (e, done s at k)
-
--- A run of stores from the front.
-pub sets-front : (l vs : List ℕ) → length vs ≤ length l → sets l 0 vs ≡ over vs l
-unfolding over
-sets-front l vs h = sets-eq vs l 0 (omega arith) ∙ simp zero-add
 
 -- ── The text's meaning by what the code tests, in its order ──
 

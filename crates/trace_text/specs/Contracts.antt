@@ -3,19 +3,12 @@ use Prim.Native.Nat.{ℕ}
 use mathlib.Core.Path.{_≡_}
 use mathlib.Core.List.{List}
 use lib.ListN.{length, drop}
-use Rattle.meaning.specs.Text.{Took, wrong, right, Header, badHead, head, readText, readSaid, readLeft, wrote}
+use Rattle.meaning.specs.Text.{Header, badHead, head, readText, readSaid, readLeft, wrote}
 use Rattle.meaning.specs.Answers.{readSays, writeSays}
 use Rattle.meaning.specs.declared.ReadText.{ReadText}
 use Rattle.meaning.specs.declared.Written.{Written}
-use Rattle.trace_text.specs.declared.Line.{Line}
-use Rattle.trace_text.specs.declared.Line.the-variants as lines
 use Rattle.trace_text.specs.declared.Head.{Head}
 use Rattle.trace_text.specs.declared.Head.the-variants as heads
-
--- What a `Line` found in a text says.
-abbrev pub tookOf : List ℕ → Line → Took
-tookOf text (lines.Value v next) = right v (drop next text)
-tookOf text lines.Wrong = wrong
 
 -- What a `Head` found in a text says.
 abbrev pub headOf : List ℕ → Head → Header

@@ -3,8 +3,9 @@ use mathlib.Core.Path.{_≡_, ap}
 use lib.ListN.{length, drop, getD}
 use native.Mathlib.Omega.{arith}
 use Rattle.meaning.specs.Text.{pageLines, pageKey}
-use Rattle.trace_text.proofs.Writing.{line-length, pages-length}
-use Rattle.trace_text.proofs.Lines.{done}
+use Rattle.text_lines.proofs.Writing.{line-length}
+use Rattle.trace_text.proofs.Writing.{pages-length}
+use Rattle.text_lines.proofs.Lines.{done}
 use Rattle.trace_text.proofs.pages_len.Statement.{statement}
 use Rattle.trace_text.proofs.pages_len.Tie as tie
 

@@ -6,7 +6,7 @@ use native.Mathlib.Omega.{arith}
 use borrow.Author.Needs.{needs}
 use Rattle.meaning.specs.Text.{pageLines}
 use Rattle.trace_text.proofs.Writing.{pages-put, pages-length}
-use Rattle.trace_text.proofs.Lines.{done}
+use Rattle.text_lines.proofs.Lines.{done}
 use Rattle.trace_text.proofs.put_pages.Statement.{statement}
 use Rattle.trace_text.proofs.put_pages.Tie as tie
 

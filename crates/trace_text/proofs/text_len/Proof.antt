@@ -2,7 +2,8 @@ use lib.ListN.{length}
 use native.Mathlib.Omega.{arith}
 use borrow.Author.Needs.{needs}
 use Rattle.meaning.specs.Text.{policyKey, capacityKey, firstKey, secondKey, countKey}
-use Rattle.trace_text.proofs.Writing.{line-length, text-length}
+use Rattle.text_lines.proofs.Writing.{line-length}
+use Rattle.trace_text.proofs.Writing.{text-length}
 use Rattle.trace_text.proofs.text_len.Statement.{statement}
 use Rattle.trace_text.proofs.text_len.Tie as tie
 

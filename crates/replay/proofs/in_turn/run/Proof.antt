@@ -7,6 +7,7 @@ use borrow.Author.Needs.{needs}
 use lib.ListN.{length, drop}
 use Rattle.meaning.specs.Rules.{sound}
 use Rattle.meaning.specs.Calls.{none}
+use Rattle.meaning.specs.Calls.{run as Calls·run}
 use Rattle.replay.specs.Turns.{tallied}
 use Rattle.replay.proofs.Turning.{not-none, turn-next, turns-done}
 use Rattle.replay.proofs.in_turn.run.Statement.{statement}

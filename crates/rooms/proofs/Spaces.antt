@@ -1,0 +1,132 @@
+-- Room made leaves what a page that comes in asks for: over any step that makes room.
+-- Assumes nothing.
+use Prim.Native.Nat.{ℕ, _+_, _*_, _≤_, _<_}
+use mathlib.Core.Path.{_≡_, ap, _∙_}
+use mathlib.Core.Bool.{true, false}
+use mathlib.Core.List.{List}
+use native.Mathlib.Omega.{arith}
+use lib.Dec.{leb, ltb}
+use lib.ListN.{length}
+use borrow.Author.Tests.{lt-ltb, le-ltb, leb-true, leb-false}
+use Rattle.meaning.specs.declared.Found.{Found}
+use Rattle.meaning.specs.declared.Found.the-variants.{At, Nothing}
+use Rattle.meaning.specs.Base.{one}
+use Rattle.meaning.specs.Neighbours.{NONE}
+use Rattle.meaning.specs.Layout.{isHeld}
+use Rattle.meaning.specs.Mem.{Mem, word, entryOf, listOn, held, full, size, back, lowest}
+use Rattle.meaning.specs.Room.{Room, asItIs}
+use Rattle.meaning.specs.Lru.{lruRoom}
+use Rattle.meaning.specs.Places.{top, Repr, Ready, Says}
+use Rattle.meaning.specs.Proper.{Indexed, Ordered, Proper}
+use Rattle.meaning.proofs.Numbers.{by-test, tally-le}
+use Rattle.theorems.specs.Sizes.{Four}
+use Rattle.theorems.specs.Turn.{Out}
+use Rattle.theorems.proofs.Operations.{lowest-free}
+use Rattle.theorems.proofs.Rooms.{list-is}
+use Rattle.theorems.proofs.Counts.{held-sizes, spare}
+use Rattle.theorems.proofs.Turning.{held1, out-none, out-off}
+use Rattle.lists.specs.Asked.{OnList}
+use Rattle.lists.specs.Asked as asked
+use Rattle.lists.specs.Told.{GivesOf, Answers}
+use Rattle.lists.proofs.Finding.{FoundAt, found-at, FoundNone, found-none}
+use Rattle.rooms.specs.Rooms.{Lined, HasBack, Evicts, Then}
+use Rattle.rooms.proofs.Backs.{back-of, on-list, back-on}
+
+-- all that a directory keeps of its pages and lists
+pub lined : {m : Mem} → Proper m → Lined m
+lined P = record { indexed = P .indexed; ordered = P .ordered }
+
+-- the pages on the four lists
+unfoldable pub all-four : Mem → ℕ
+all-four m = size m 1 + size m 2 + size m 3 + size m 4
+
+-- a directory with fewer pages than entries has room for a page that it does not have
+pub space-in : (n : Mem) → Indexed n → Ordered n → all-four n < n .tops 2 → (p : ℕ) → ((i : ℕ) → n .pages i ≡ p → ⊥) → asked.Room p n
+unfolding all-four
+space-in n I O few p absent =
+    let f = spare n I O few in
+    let k = lowest-free n (f .0) (f .1) (f .2) in
+    record { fresh = record { bare = record { within = k .0; none = O .idle (lowest n) (k .1); absent = absent }; idle = k .1 } }
+
+-- which is room where nothing is put out
+pub space-as : (p : ℕ) (n : Mem) → asked.Room p n → asked.Room p (asItIs n .mem)
+unfolding asItIs
+space-as p n k = k
+
+-- so has one where room was made
+pub space-out : {k j : ℕ} {m : Mem} {r : Room} → Out k j m r → (p : ℕ) → p < NONE → ((i : ℕ) → m .pages i ≡ p → ⊥) → (Four k j m (r .mem) → all-four (r .mem) < m .tops 2) → asked.Room p (r .mem)
+unfolding all-four
+space-out {r = r} X p hp absent few =
+    let t = ap (λ (g : ℕ → ℕ). g 2) (X .quiet .tops) in
+    space-in (r .mem) (X .vacant .indexed) (X .vacant .ordered) (omega (arith, few (X .four), t)) p (λ i z. absent i (X .makes .pages p hp i z))
+
+-- LRU and segmented LRU, which have no ghosts and as many entries as C, can make room
+pub lru-space : (m : Mem) → Proper m → m .tops 2 ≡ m .tops 1 → (size m 3 ≡ 0) × (size m 4 ≡ 0) → size m 2 < m .tops 1
+    → (p : ℕ) → p < NONE → ((i : ℕ) → m .pages i ≡ p → ⊥) → Then (Evicts 1) lruRoom (asked.Room p) m
+unfolding lruRoom full one all-four
+lru-space m P all bare under p hp absent =
+    let two = held-sizes m (P .indexed) (P .ordered) in
+    let most : held m ≤ m .tops 1 = unfold held in omega (arith, all, tally-le (m .tops 2) (λ i. isHeld (m .lists i))) in
+    record {
+      asks = record { lined = lined P; some = λ t. omega (arith, leb-true (m .tops 1) (held m) t, two, under) };
+      leaves = by-test (leb (m .tops 1) (held m))
+          (λ t. simp t (space-out (out-off m P (back m 1) 1 (back-of m P 1 (omega arith) (omega (arith, leb-true (m .tops 1) (held m) t, two, under))) held1) p hp absent
+          (λ F. omega (arith, F, two, most, all, bare))))
+          (λ t. simp t (space-out (out-none m P most) p hp absent (λ F. omega (arith, F, two, leb-false (m .tops 1) (held m) t, all, bare))));
+    }
+
+-- ── Lists that are over a size ──
+
+module _ {ws : List ℕ} {k n x : ℕ} (t : ℕ) (ht : t < 7) (s : Says ws (GivesOf size k n)) (ex : x ≡ word ws t) where
+  reads : (m : Mem) → Repr ws m → (x ≡ m .tops t) × (n ≡ size m k)
+  reads m R = (ex ∙ R .holds .at (top t) ht, s .of m R .is)
+
+  -- a list that the code finds over a size is
+  pub is-over : x < n → (m : Mem) → Repr ws m → (ltb (m .tops t) (size m k) ≡ true) × (1 ≤ size m k)
+  is-over h m R = (lt-ltb (m .tops t) (size m k) (omega (arith, reads m R)), omega (arith, reads m R))
+
+  -- a list that it does not find over is not
+  pub not-over : n ≤ x → (m : Mem) → Repr ws m → ltb (m .tops t) (size m k) ≡ false
+  not-over h m R = le-ltb (m .tops t) (size m k) (omega (arith, reads m R))
+
+-- a list that is over a size has a back
+pub over-back : {ws : List ℕ} {k n x : ℕ} → Says ws (GivesOf size k n) → x < n → Ready ws Lined → Ready ws (HasBack k)
+over-back s h o = record { mem = o .mem; repr = o .repr; meets = record { lined = o .meets; some = omega (arith, s .of (o .mem) (o .repr) .is) } }
+
+-- which can be moved
+pub over-on : {ws : List ℕ} {k n x e : ℕ} → Says ws (GivesOf size k n) → x < n → Says ws (GivesOf back k e) → 1 ≤ k → Ready ws Lined → Ready ws (OnList e)
+over-on s h b hk o = back-on b hk (over-back s h o)
+
+-- ── What was found ──
+
+-- entry e has the page p, and is on a list
+pub record Hits (p e : ℕ) (m : Mem) : Type 0 where
+  pub on : OnList e m
+  pub used : m .lists e ≡ 0 → ⊥
+  pub page : m .pages e ≡ p
+  pub entry : entryOf m p ≡ e
+  pub list : listOn m p ≡ m .lists e
+
+module _ {ws : List ℕ} {p : ℕ} {r : Found} (a : Says ws (Answers p r)) where
+  -- the entry that was found has the page
+  pub found-entry : {e b : ℕ} → r ≡ At e b → (m : Mem) → Repr ws m → FoundAt p e b m
+  found-entry z m R = found-at m (R .fine) (rw z at (a .of m R))
+
+  -- the words of the entry may be read
+  pub found-room : {ok : Mem → Type 0} {e b : ℕ} → r ≡ At e b → Ready ws ok → 16 + 8 * e + 8 ≤ length ws
+  found-room z o = omega (arith, o .repr .holds .size, found-entry z (o .mem) (o .repr) .hung .within)
+
+  -- it is on a list
+  pub hits : {e b : ℕ} → r ≡ At e b → p < NONE → (m : Mem) → Repr ws m → Lined m → Hits p e m
+  hits {e} z hp m R L =
+      let k = found-entry z m R in
+      let u : m .lists e ≡ 0 → ⊥ = λ y. omega (arith, k .page, L .ordered .idle e y) in
+      record { on = on-list m L e u; used = u; page = k .page; entry = k .entry; list = list-is m (L .indexed) p hp e (k .page) }
+
+  -- it can be moved
+  pub found-on : {ok : Mem → Type 0} {e b : ℕ} → r ≡ At e b → p < NONE → ((m : Mem) → ok m → Lined m) → Ready ws ok → Ready ws (OnList e)
+  found-on z hp h o = record { mem = o .mem; repr = o .repr; meets = hits z hp (o .mem) (o .repr) (h (o .mem) (o .meets)) .on }
+
+  -- no entry has a page that was not found
+  pub found-nothing : r ≡ Nothing → p < NONE → (m : Mem) → Repr ws m → Indexed m → FoundNone p m
+  found-nothing z hp m R I = found-none m I hp (rw z at (a .of m R))
