@@ -6,6 +6,7 @@ mod audit;
 mod calls;
 mod codec;
 mod compare;
+mod draft;
 #[allow(dead_code)]
 mod model;
 #[allow(dead_code)]

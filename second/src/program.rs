@@ -37,7 +37,7 @@ fn read_form_replay(input: &[u8]) -> Result<Counts, Refusal> {
 }
 
 /// The five lines of the program's result.
-fn five_lines(refused: u32, line: u32, counts: Counts) -> String {
+pub fn five_lines(refused: u32, line: u32, counts: Counts) -> String {
     let Counts { hits, loads, swaps } = counts;
     format!("refused={refused}\nline={line}\nhits={hits}\nloads={loads}\nswaps={swaps}\n")
 }

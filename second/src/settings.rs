@@ -122,6 +122,12 @@ impl Settings {
         })
     }
 
+    /// The policy's number, the capacity, first and second.
+    pub fn numbers(&self) -> [u32; 4] {
+        let policy = self.policy.number();
+        [policy, self.capacity, self.first, self.second]
+    }
+
     /// The number of entries, E.
     pub fn entries(&self) -> usize {
         let entries = match self.policy {

@@ -2,7 +2,7 @@
 
 use crate::calls::words_for;
 use crate::random::{settings_at, Random};
-use crate::settings::{Policy, Settings, NONE};
+use crate::settings::{Policy, NONE};
 
 use super::bench::Bench;
 use super::call::Call;
@@ -30,7 +30,7 @@ pub fn run(bench: &mut Bench, random: &mut Random, scale: usize) {
         for capacity in CAPACITIES {
             for _ in 0..RIGHT_SETTINGS * scale {
                 let settings = settings_at(random, policy, capacity);
-                form_lengths(bench, random, numbers(&settings));
+                form_lengths(bench, random, settings.numbers());
             }
         }
     }
@@ -41,12 +41,6 @@ pub fn run(bench: &mut Bench, random: &mut Random, scale: usize) {
             form_lengths(bench, random, settings);
         }
     }
-}
-
-/// The four numbers of settings.
-fn numbers(settings: &Settings) -> [u32; 4] {
-    let policy = settings.policy.number();
-    [policy, settings.capacity, settings.first, settings.second]
 }
 
 /// First and second settings around the ends of their ranges.

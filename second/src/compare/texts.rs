@@ -1,5 +1,6 @@
 //! Trace texts: written ones, right and damaged ones, and every refusal.
 
+use crate::draft::{damaged, text_of};
 use crate::random::{page_pool, trace_over, Random};
 use crate::settings::{LONGEST, NONE};
 
@@ -12,26 +13,6 @@ const TEXTS: usize = 5_000;
 
 /// Damages of each generated text.
 const DAMAGES: usize = 12;
-
-/// Pieces that damages put into a text.
-const PIECES: [&[u8]; 16] = [
-    b"0",
-    b"00",
-    b"9",
-    b"\n",
-    b"=",
-    b"-",
-    b" ",
-    b"\r\n",
-    b"page=",
-    b"page=1\n",
-    b"count=",
-    b"4294967295",
-    b"4294967296",
-    b"99999999999",
-    b"\x00",
-    b"\xff",
-];
 
 /// Compares pd_read and pd_write.
 pub fn run(bench: &mut Bench, random: &mut Random, scale: usize) {
@@ -53,18 +34,6 @@ fn number(random: &mut Random) -> u32 {
     }
 }
 
-/// The text of settings and a trace.
-fn text_of(settings: [u32; 4], count: u32, trace: &[u32]) -> Vec<u8> {
-    let [policy, capacity, first, second] = settings;
-    let mut text = format!(
-        "policy={policy}\ncapacity={capacity}\nfirst={first}\nsecond={second}\ncount={count}\n"
-    );
-    for page in trace {
-        text.push_str(&format!("page={page}\n"));
-    }
-    text.into_bytes()
-}
-
 /// Random settings and a short trace: written, read, and read again after damages.
 fn generated(bench: &mut Bench, random: &mut Random) {
     let settings = [0; 4].map(|_: u32| number(random));
@@ -81,45 +50,6 @@ fn generated(bench: &mut Bench, random: &mut Random) {
         let room = trace.len() + random.below(3);
         read(bench, random, "a damaged text", &damaged, room);
     }
-}
-
-/// The text with a byte changed, taken out or cut off, a piece put in, or a line doubled or lost.
-fn damaged(random: &mut Random, text: &[u8]) -> Vec<u8> {
-    let mut damaged = text.to_vec();
-    let place = random.below(text.len());
-    match random.below(7) {
-        0 => damaged[place] = random.next() as u8,
-        1 => damaged[place] = random.pick(b"0123456789=\npage"),
-        2 => {
-            damaged.remove(place);
-        }
-        3 => damaged.truncate(place),
-        4 => {
-            let piece = random.pick(&PIECES);
-            damaged.splice(place..place, piece.iter().copied());
-        }
-        5 => {
-            let line = line_at(text, place);
-            damaged.splice(line.start..line.start, text[line.clone()].iter().copied());
-        }
-        _ => {
-            damaged.drain(line_at(text, place));
-        }
-    }
-    damaged
-}
-
-/// The line around a place, with its end.
-fn line_at(text: &[u8], place: usize) -> std::ops::Range<usize> {
-    let start = text[..place]
-        .iter()
-        .rposition(|byte| *byte == b'\n')
-        .map_or(0, |end| end + 1);
-    let end = text[place..]
-        .iter()
-        .position(|byte| *byte == b'\n')
-        .map_or(text.len(), |end| place + end + 1);
-    start..end
 }
 
 /// Counts at their limits, in short and long buffers, with right and wrong pages behind.

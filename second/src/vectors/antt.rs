@@ -47,13 +47,9 @@ fn file(comment: &str, names: &str, list: &str, kind: &str, items: &[String]) ->
 
 /// One trace with its answers and its last words.
 fn trace_item(vector: &TraceVector) -> String {
-    let settings = &vector.settings;
+    let [policy, capacity, first, second] = vector.settings.numbers();
     format!(
-        "trace {} {} {} {}\n{}\n{}\n{}",
-        settings.policy.number(),
-        settings.capacity,
-        settings.first,
-        settings.second,
+        "trace {policy} {capacity} {first} {second}\n{}\n{}\n{}",
         numbers(&vector.pages),
         numbers(&vector.answers),
         numbers(&vector.words)
