@@ -7,6 +7,7 @@ mod table;
 use std::collections::BTreeMap;
 use std::io;
 
+use crate::calls::Counts;
 use crate::program::{self, five_lines};
 use crate::random::Random;
 
@@ -92,7 +93,8 @@ fn shown(text: &[u8]) -> String {
 pub fn run(plan: &Plan) -> io::Result<bool> {
     let mut tally = Tally::default();
     for row in table::rows() {
-        let expected = five_lines(row.refused, row.line, row.counts);
+        let [refused, line, hits, loads, swaps] = row.numbers;
+        let expected = five_lines(refused, line, Counts { hits, loads, swaps });
         tally.compare(plan, &row.what, &row.text, &expected)?;
     }
     let by_hand = tally.runs;

@@ -1,6 +1,5 @@
 //! Runs whose five numbers are counted by hand from the scope document.
 
-use crate::calls::Counts;
 use crate::draft::text_of;
 use crate::settings::NONE;
 
@@ -8,10 +7,12 @@ use crate::settings::NONE;
 pub struct Row {
     pub what: String,
     pub text: Vec<u8>,
-    pub refused: u32,
-    pub line: u32,
-    pub counts: Counts,
+    /// Refused, line, hits, loads and swaps.
+    pub numbers: [u32; 5],
 }
+
+/// The five numbers of a text that is too long.
+const TOO_LONG: [u32; 5] = [7, 0, 0, 0, 0];
 
 /// Texts with wrong lines, `/` standing for byte 10, and the line that refusal 10 names.
 const WRONG_LINES: &[(&str, u32)] = &[
@@ -276,115 +277,76 @@ pub fn rows() -> Vec<Row> {
         .chain(others)
         .chain(REPLAYED.iter().map(replayed))
         .chain(long_rows())
+        .chain(too_long_rows())
         .collect()
+}
+
+/// A row of a text and its five numbers.
+fn row(what: &str, text: Vec<u8>, numbers: [u32; 5]) -> Row {
+    Row {
+        what: what.to_string(),
+        text,
+        numbers,
+    }
 }
 
 /// A row with a refusal, `/` standing for byte 10 in its text.
 fn refused(text: &str, number: u32, line: u32) -> Row {
-    refused_bytes(text, text.replace('/', "\n").into_bytes(), number, line)
-}
-
-/// A row with a refusal.
-fn refused_bytes(what: &str, text: Vec<u8>, refused: u32, line: u32) -> Row {
-    Row {
-        what: what.to_string(),
-        text,
-        refused,
-        line,
-        counts: Counts::default(),
-    }
+    let bytes = text.replace('/', "\n").into_bytes();
+    row(text, bytes, [number, line, 0, 0, 0])
 }
 
 /// A row without a refusal.
 fn replayed((what, settings, trace, [hits, loads, swaps]): &Replayed) -> Row {
-    Row {
-        what: format!("{what}, policy {}", settings[0]),
-        text: text_of(*settings, trace.len() as u32, trace),
-        refused: 0,
-        line: 0,
-        counts: Counts {
-            hits: *hits,
-            loads: *loads,
-            swaps: *swaps,
-        },
-    }
+    let what = format!("{what}, policy {}", settings[0]);
+    let text = text_of(*settings, trace.len() as u32, trace);
+    row(&what, text, [0, 0, *hits, *loads, *swaps])
 }
 
-/// Texts of about the most bytes: 48 bytes of five lines, then 7 bytes for a page of one digit and 8 for one of two.
+/// Texts of almost the most bytes: 48 bytes of five lines, then 7 bytes for each page 7 and 8 for each page of two digits.
 fn long_rows() -> Vec<Row> {
-    let accepted = longest_text(9_353, &[10, 11]);
-    let one_digit = longest_text(9_355, &[]);
+    let longest = sevens_and(9_353, &[10, 11]);
+    let sevens = sevens_and(9_355, &[]);
+    let after_the_end = [&sevens[..], b"\n\n"].concat();
+    let cut_off = longest[..65_534].to_vec();
+    let lines_missing = sevens_counted(9_355, 9_362);
+    let senseless = vec![b'x'; 65_535];
     vec![
-        Row {
-            what: "65,535 bytes".to_string(),
-            text: accepted.clone(),
-            refused: 0,
-            line: 0,
-            counts: Counts {
-                hits: 9_352,
-                loads: 1,
-                swaps: 2,
-            },
-        },
-        Row {
-            what: "65,533 bytes".to_string(),
-            text: one_digit.clone(),
-            refused: 0,
-            line: 0,
-            counts: Counts {
-                hits: 9_354,
-                loads: 1,
-                swaps: 0,
-            },
-        },
-        refused_bytes(
-            "65,535 bytes, two of them after the end",
-            [&one_digit[..], b"\n\n"].concat(),
-            10,
-            9_361,
+        row("65,535 bytes", longest, [0, 0, 9_352, 1, 2]),
+        row("65,533 bytes", sevens, [0, 0, 9_354, 1, 0]),
+        row(
+            "two bytes after the end",
+            after_the_end,
+            [10, 9_361, 0, 0, 0],
         ),
-        refused_bytes(
-            "65,534 bytes, the last cut off",
-            accepted[..65_534].to_vec(),
-            10,
-            9_360,
-        ),
-        refused_bytes(
-            "9,362 pages announced, 9,355 given",
-            with_count(&one_digit, "9362"),
-            10,
-            9_361,
-        ),
-        refused_bytes(
-            "65,536 bytes by a longer page",
-            longest_text(9_352, &[10, 11, 12]),
-            7,
-            0,
-        ),
-        refused_bytes(
-            "65,536 bytes by one after the end",
-            [&accepted[..], b"\n"].concat(),
-            7,
-            0,
-        ),
-        refused_bytes("9,362 pages, 65,582 bytes", longest_text(9_362, &[]), 7, 0),
-        refused_bytes("65,535 bytes of no sense", vec![b'x'; 65_535], 10, 1),
-        refused_bytes("65,536 bytes of no sense", vec![b'x'; 65_536], 7, 0),
-        refused_bytes("200,000 bytes", longest_text(28_564, &[]), 7, 0),
-        refused_bytes("1,000,000 bytes of byte 10", vec![b'\n'; 1_000_000], 7, 0),
-        refused_bytes("65,537 bytes of byte 0", vec![0; 65_537], 7, 0),
+        row("the last byte cut off", cut_off, [10, 9_360, 0, 0, 0]),
+        row("seven pages missing", lines_missing, [10, 9_361, 0, 0, 0]),
+        row("65,535 bytes of no sense", senseless, [10, 1, 0, 0, 0]),
+    ]
+}
+
+/// Texts of over the most bytes.
+fn too_long_rows() -> Vec<Row> {
+    let longer_page = sevens_and(9_352, &[10, 11, 12]);
+    let longer_end = [&sevens_and(9_353, &[10, 11])[..], b"\n"].concat();
+    vec![
+        row("65,536 bytes by a page", longer_page, TOO_LONG),
+        row("65,536 bytes by the end", longer_end, TOO_LONG),
+        row("65,582 bytes", sevens_and(9_362, &[]), TOO_LONG),
+        row("199,997 bytes", sevens_and(28_564, &[]), TOO_LONG),
+        row("65,536 bytes of no sense", vec![b'x'; 65_536], TOO_LONG),
+        row("65,537 bytes 0", vec![0; 65_537], TOO_LONG),
+        row("1,000,000 bytes 10", vec![b'\n'; 1_000_000], TOO_LONG),
     ]
 }
 
 /// The text of LRU with capacity 1 and a trace of page 7, so many times, and more pages.
-fn longest_text(sevens: usize, more: &[u32]) -> Vec<u8> {
+fn sevens_and(sevens: usize, more: &[u32]) -> Vec<u8> {
     let trace = [&vec![7; sevens][..], more].concat();
     text_of([1, 1, 0, 0], trace.len() as u32, &trace)
 }
 
-/// The text with another count of as many digits as its own 9355.
-fn with_count(text: &[u8], count: &str) -> Vec<u8> {
-    let text = String::from_utf8_lossy(text);
-    text.replacen("count=9355", &format!("count={count}"), 1)
-        .into_bytes()
+/// The text of LRU with capacity 1, any count, and page 7 so many times.
+fn sevens_counted(sevens: usize, count: u32) -> Vec<u8> {
+    text_of([1, 1, 0, 0], count, &vec![7; sevens])
 }
