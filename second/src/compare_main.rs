@@ -1,4 +1,4 @@
-//! Compares the static library with the second program, call by call; with `--cfg requests` also pd_request and pd_replay.
+//! Compares the static library with the second program, call by call.
 
 #[allow(dead_code)]
 mod audit;
@@ -23,7 +23,7 @@ use std::env;
 use std::process::ExitCode;
 
 /// How the program is called.
-const USAGE: &str = "usage: second-compare [--seed N] [--scale N] [--slip N | --slips]";
+const USAGE: &str = "usage: second-compare [--seed N] [--scale N] [--stop] [--slip N | --slips]";
 
 /// Runs the comparison that the arguments ask for.
 fn main() -> ExitCode {

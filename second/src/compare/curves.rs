@@ -9,6 +9,8 @@ use super::bench::Bench;
 use super::call::Call;
 use super::forming::{garbage, CAPACITIES};
 use super::library;
+use super::requests::LONG_CAPACITIES;
+use super::shapes::Shape;
 
 /// Requests of a short trace times capacities, at most.
 const SHORT: usize = 40_000;
@@ -27,6 +29,9 @@ pub fn run(bench: &mut Bench, random: &mut Random, scale: usize) {
     refusals(bench, random);
     for round in 0..2 * scale {
         long(bench, random, round % 2 == 0);
+    }
+    for capacity in LONG_CAPACITIES {
+        shapes(bench, random, capacity);
     }
     longest(bench, random);
 }
@@ -113,6 +118,17 @@ fn refusals(bench: &mut Bench, random: &mut Random) {
                 );
             }
         }
+    }
+}
+
+/// A long trace of every shape.
+fn shapes(bench: &mut Bench, random: &mut Random, capacity: u32) {
+    for shape in Shape::ALL {
+        if bench.is_done() {
+            return;
+        }
+        let trace = shape.trace(random, capacity);
+        curve(bench, random, shape.name(), (capacity, &trace), [0, 3]);
     }
 }
 

@@ -8,7 +8,9 @@ mod expected;
 mod forming;
 mod lent;
 mod library;
+mod orders;
 mod requests;
+mod shapes;
 mod slips;
 mod texts;
 
@@ -35,6 +37,8 @@ const PARTS: &[Part] = &[
 pub struct Plan {
     seed: u64,
     scale: usize,
+    /// Whether the first difference ends the comparison.
+    stops: bool,
     work: Work,
 }
 
@@ -51,6 +55,7 @@ impl Plan {
         let mut plan = Plan {
             seed: DEFAULT_SEED,
             scale: 1,
+            stops: false,
             work: Work::Plain,
         };
         let mut rest = arguments.iter();
@@ -58,6 +63,7 @@ impl Plan {
             match name.as_str() {
                 "--seed" => plan.seed = rest.next()?.parse().ok()?,
                 "--scale" => plan.scale = rest.next()?.parse().ok()?,
+                "--stop" => plan.stops = true,
                 "--slip" => plan.work = Work::OneSlip(rest.next()?.parse().ok()?),
                 "--slips" => plan.work = Work::AllSlips,
                 _ => return None,
@@ -81,7 +87,7 @@ pub fn run(plan: &Plan) -> bool {
 
 /// Runs every part, prints the counts, and says whether there was no difference.
 fn compare_all(plan: &Plan, slip: Option<&'static Slip>) -> bool {
-    let mut bench = Bench::new(slip, false);
+    let mut bench = Bench::new(slip, plan.stops);
     run_parts(plan, &mut bench, |_| true);
     bench.print();
     bench.passed()

@@ -1,4 +1,4 @@
-//! Requests and replays: random walks over every policy, damaged words, and every refusal.
+//! Requests and replays: random walks over every policy, damaged words, every refusal, long traces, and every order of few pages.
 
 use crate::calls::request;
 use crate::codec::encode;
@@ -10,6 +10,8 @@ use super::bench::Bench;
 use super::call::Call;
 use super::directories::reached_directory;
 use super::forming::{garbage, CAPACITIES};
+use super::orders;
+use super::shapes::Shape;
 
 /// Random sound directories of each policy and small capacity, for each unit of scale.
 const ROUNDS: usize = 60;
@@ -19,6 +21,9 @@ const STEPS: usize = 60;
 
 /// Damaged directories of each policy for each unit of scale.
 const DAMAGED: usize = 600;
+
+/// Capacities of the long replays.
+pub const LONG_CAPACITIES: [u32; 2] = [64, 512];
 
 /// Compares pd_request and pd_replay.
 pub fn run(bench: &mut Bench, random: &mut Random, scale: usize) {
@@ -34,6 +39,7 @@ pub fn run(bench: &mut Bench, random: &mut Random, scale: usize) {
         refusals(bench, random, policy);
         long(bench, random, policy);
     }
+    orders::run(bench, random);
 }
 
 /// How many walks are made at a capacity.
@@ -118,20 +124,23 @@ fn refusals(bench: &mut Bench, random: &mut Random, policy: Policy) {
     }
 }
 
-/// A long replay at the largest capacity.
+/// Long replays of every shape.
 fn long(bench: &mut Bench, random: &mut Random, policy: Policy) {
-    if bench.is_done() {
-        return;
+    for capacity in LONG_CAPACITIES {
+        for shape in Shape::ALL {
+            if bench.is_done() {
+                return;
+            }
+            let settings = settings_at(random, policy, capacity);
+            let words = encode(&Directory::fresh(settings));
+            let trace = shape.trace(random, capacity);
+            replay(bench, random, shape.name(), &words, &trace);
+        }
     }
-    let settings = settings_at(random, policy, 512);
-    let pool = page_pool(random, 1_300, true);
-    let words = encode(&Directory::fresh(settings));
-    let trace = trace_over(random, &pool, 60_000);
-    replay(bench, random, "a long trace", &words, &trace);
 }
 
 /// Compares a request.
-fn ask(bench: &mut Bench, random: &mut Random, what: &str, words: &[u32], page: u32) {
+pub fn ask(bench: &mut Bench, random: &mut Random, what: &str, words: &[u32], page: u32) {
     let answer = [0; 4].map(|_: u32| random.next() as u32);
     bench.compare(
         what,
@@ -144,7 +153,7 @@ fn ask(bench: &mut Bench, random: &mut Random, what: &str, words: &[u32], page: 
 }
 
 /// Compares a replay.
-fn replay(bench: &mut Bench, random: &mut Random, what: &str, words: &[u32], trace: &[u32]) {
+pub fn replay(bench: &mut Bench, random: &mut Random, what: &str, words: &[u32], trace: &[u32]) {
     let answer = [0; 3].map(|_: u32| random.next() as u32);
     bench.compare(
         what,
