@@ -1,5 +1,7 @@
 //! Runs whose five numbers are counted by hand from the scope document.
 
+use std::iter::once;
+
 use crate::draft::text_of;
 use crate::settings::NONE;
 
@@ -13,6 +15,9 @@ pub struct Row {
 
 /// The five numbers of a text that is too long.
 const TOO_LONG: [u32; 5] = [7, 0, 0, 0, 0];
+
+/// The scope document's whole example, `/` standing for byte 10.
+const EXAMPLE: &str = "policy=1/capacity=2/first=0/second=0/count=4/page=7/page=9/page=7/page=5/";
 
 /// Texts with wrong lines, `/` standing for byte 10, and the line that refusal 10 names.
 const WRONG_LINES: &[(&str, u32)] = &[
@@ -273,7 +278,8 @@ pub fn rows() -> Vec<Row> {
     let others = REFUSED
         .iter()
         .map(|(text, number)| refused(text, *number, 0));
-    wrong_lines
+    once(row("the whole example", bytes(EXAMPLE), [0, 0, 1, 2, 1]))
+        .chain(wrong_lines)
         .chain(others)
         .chain(REPLAYED.iter().map(replayed))
         .chain(long_rows())
@@ -290,10 +296,14 @@ fn row(what: &str, text: Vec<u8>, numbers: [u32; 5]) -> Row {
     }
 }
 
+/// The bytes of a text in which `/` stands for byte 10.
+fn bytes(text: &str) -> Vec<u8> {
+    text.replace('/', "\n").into_bytes()
+}
+
 /// A row with a refusal, `/` standing for byte 10 in its text.
 fn refused(text: &str, number: u32, line: u32) -> Row {
-    let bytes = text.replace('/', "\n").into_bytes();
-    row(text, bytes, [number, line, 0, 0, 0])
+    row(text, bytes(text), [number, line, 0, 0, 0])
 }
 
 /// A row without a refusal.
