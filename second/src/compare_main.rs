@@ -23,7 +23,8 @@ use std::env;
 use std::process::ExitCode;
 
 /// How the program is called.
-const USAGE: &str = "usage: second-compare [--seed N] [--scale N] [--stop] [--slip N | --slips]";
+const USAGE: &str =
+    "usage: compare [--seed N] [--scale N] [--stop] [--call NAME] [--slip N | --slips]";
 
 /// Runs the comparison that the arguments ask for.
 fn main() -> ExitCode {

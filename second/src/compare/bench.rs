@@ -1,6 +1,7 @@
 //! Makes each comparison, counts it, and keeps the first differences.
 
 use std::collections::BTreeMap;
+use std::panic::catch_unwind;
 
 use super::call::{Call, Seen};
 use super::slips::Slip;
@@ -39,17 +40,20 @@ impl Bench {
         self.stops && self.differences > 0
     }
 
-    /// Makes a call of both and compares what C sees; `what` says where the call comes from.
-    pub fn compare(&mut self, what: &str, call: &Call) {
+    /// Makes a call of both, compares what C sees and gives what it saw; `what` says where the call comes from.
+    pub fn compare(&mut self, what: &str, call: &Call) -> Option<Seen> {
         if self.is_done() {
-            return;
+            return None;
         }
         let seen = library::seen(call);
-        let mut expected = expected::seen(call);
+        self.count(call.name(), seen.code as u32);
+        let Ok(mut expected) = catch_unwind(|| expected::seen(call)) else {
+            self.differ(format!("{} on {what}: the model stops", call.name()));
+            return Some(seen);
+        };
         if let Some(slip) = self.slip.filter(|slip| slip.call == call.name()) {
             (slip.alter)(call, &mut expected);
         }
-        self.count(call.name(), seen.code as u32);
         if seen != expected {
             self.differ(format!(
                 "{} on {what}: {}",
@@ -57,6 +61,7 @@ impl Bench {
                 difference(&seen, &expected)
             ));
         }
+        Some(seen)
     }
 
     /// Counts a comparison of some words that the library left.
@@ -101,9 +106,12 @@ impl Bench {
         self.told.first().map(String::as_str)
     }
 
-    /// The numbers that a call may return and never did.
+    /// The numbers that a call may return and never did, none if the comparison was cut short.
     fn unseen(&self) -> Vec<String> {
         let mut unseen = Vec::new();
+        if self.is_done() {
+            return unseen;
+        }
         for (name, numbers) in &self.counts {
             for number in Call::numbers(name) {
                 if !numbers.contains_key(number) {

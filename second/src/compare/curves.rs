@@ -9,7 +9,7 @@ use super::bench::Bench;
 use super::call::Call;
 use super::forming::{garbage, CAPACITIES};
 use super::library;
-use super::requests::LONG_CAPACITIES;
+use super::requests::{chosen_traces, LONG_CAPACITIES};
 use super::shapes::Shape;
 
 /// Requests of a short trace times capacities, at most.
@@ -81,20 +81,7 @@ fn short(bench: &mut Bench, random: &mut Random) {
 
 /// Every refusal alone, and each pair of them.
 fn refusals(bench: &mut Bench, random: &mut Random) {
-    let plain = trace(random, 30, 10);
-    let with_none = [&plain[..], &[NONE], &plain[..]].concat();
-    let too_long = trace(random, LONGEST + 1, 10);
-    let mut too_long_with_none = too_long.clone();
-    too_long_with_none[0] = NONE;
-    let none_last = [&plain[..], &[NONE]].concat();
-    let traces = [
-        &[],
-        &plain[..],
-        &with_none,
-        &none_last,
-        &too_long,
-        &too_long_with_none,
-    ];
+    let traces = chosen_traces(random);
     for largest in [0, 1, 5, 512, 513, NONE] {
         let needed = largest.min(LARGEST_CAPACITY + 1) as usize;
         let short = needed.saturating_sub(1);
@@ -105,7 +92,7 @@ fn refusals(bench: &mut Bench, random: &mut Random) {
             (short, short),
             (0, 0),
         ] {
-            for trace in traces {
+            for trace in &traces {
                 let (result, work) = (garbage(random, room), garbage(random, places));
                 bench.compare(
                     "a refusal",

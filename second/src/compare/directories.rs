@@ -4,7 +4,7 @@ use crate::codec::encode;
 use crate::model::{Directory, Member};
 use crate::policies;
 use crate::random::{page_pool, settings_at, sound_directory, trace_over, Random};
-use crate::settings::{Policy, Settings, NONE};
+use crate::settings::{Policy, Settings, ENTRY_WORDS, HEADER_WORDS, NONE};
 
 use super::bench::Bench;
 use super::call::Call;
@@ -28,13 +28,15 @@ const SENSELESS: usize = 20_000;
 /// Compares pd_audit, pd_look and pd_report.
 pub fn run(bench: &mut Bench, random: &mut Random, scale: usize) {
     for policy in Policy::ALL {
-        for capacity in CAPACITIES {
+        for _ in 0..SIZED * scale {
+            sized(bench, random, policy);
+        }
+    }
+    for capacity in CAPACITIES {
+        for policy in Policy::ALL {
             for _ in 0..rounds(capacity, scale) {
                 of_capacity(bench, random, policy, capacity);
             }
-        }
-        for _ in 0..SIZED * scale {
-            sized(bench, random, policy);
         }
     }
     for _ in 0..SENSELESS * scale {
@@ -67,6 +69,7 @@ fn of_capacity(bench: &mut Bench, random: &mut Random, policy: Policy, capacity:
         whole(bench, random, &words, &pool);
         if capacity <= SMALL {
             single_words(bench, random, &words, &pool);
+            exchanged_words(bench, random, &words, &pool);
         }
         random_damages(bench, random, &words, &pool);
     }
@@ -124,6 +127,20 @@ fn single_words(bench: &mut Bench, random: &mut Random, words: &[u32], pool: &[u
             all_three(bench, random, "one changed word", &damaged, pool);
         }
         damaged[place] = words[place];
+    }
+}
+
+/// Each word of an entry exchanged with that of every other entry.
+fn exchanged_words(bench: &mut Bench, random: &mut Random, words: &[u32], pool: &[u32]) {
+    let entries = words[2] as usize;
+    let mut damaged = words.to_vec();
+    for word in 0..ENTRY_WORDS {
+        let place = |entry| HEADER_WORDS + ENTRY_WORDS * entry + word;
+        for (one, other) in (0..entries).flat_map(|one| (0..one).map(move |other| (one, other))) {
+            damaged.swap(place(one), place(other));
+            all_three(bench, random, "exchanged words", &damaged, pool);
+            damaged.swap(place(one), place(other));
+        }
     }
 }
 

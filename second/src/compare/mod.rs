@@ -39,6 +39,8 @@ pub struct Plan {
     scale: usize,
     /// Whether the first difference ends the comparison.
     stops: bool,
+    /// The call whose parts alone are run.
+    call: Option<&'static str>,
     work: Work,
 }
 
@@ -56,6 +58,7 @@ impl Plan {
             seed: DEFAULT_SEED,
             scale: 1,
             stops: false,
+            call: None,
             work: Work::Plain,
         };
         let mut rest = arguments.iter();
@@ -64,6 +67,7 @@ impl Plan {
                 "--seed" => plan.seed = rest.next()?.parse().ok()?,
                 "--scale" => plan.scale = rest.next()?.parse().ok()?,
                 "--stop" => plan.stops = true,
+                "--call" => plan.call = Some(compared_call(rest.next()?)?),
                 "--slip" => plan.work = Work::OneSlip(rest.next()?.parse().ok()?),
                 "--slips" => plan.work = Work::AllSlips,
                 _ => return None,
@@ -71,6 +75,17 @@ impl Plan {
         }
         Some(plan)
     }
+
+    /// Whether one of the calls is to be compared.
+    fn covers(&self, calls: &[&str]) -> bool {
+        self.call.map_or(true, |call| calls.contains(&call))
+    }
+}
+
+/// The call of that name, if a part compares it.
+fn compared_call(name: &str) -> Option<&'static str> {
+    let mut calls = PARTS.iter().flat_map(|(_, calls)| calls.iter().copied());
+    calls.find(|call| *call == name)
 }
 
 /// Runs the plan and says whether nothing is amiss.
@@ -88,7 +103,7 @@ pub fn run(plan: &Plan) -> bool {
 /// Runs every part, prints the counts, and says whether there was no difference.
 fn compare_all(plan: &Plan, slip: Option<&'static Slip>) -> bool {
     let mut bench = Bench::new(slip, plan.stops);
-    run_parts(plan, &mut bench, |_| true);
+    run_parts(plan, &mut bench, |calls| plan.covers(calls));
     bench.print();
     bench.passed()
 }
@@ -108,7 +123,7 @@ fn catch_all(plan: &Plan) -> bool {
     let mut missed = 0;
     let mut planted = 0;
     for (index, slip) in SLIPS.iter().enumerate() {
-        if !PARTS.iter().any(|(_, calls)| calls.contains(&slip.call)) {
+        if compared_call(slip.call).is_none() {
             continue;
         }
         planted += 1;

@@ -1,6 +1,5 @@
 //! Every order of requests for a few pages, for each policy and every setting of small capacities.
 
-use crate::calls::request;
 use crate::codec::encode;
 use crate::model::Directory;
 use crate::random::{page_pool, Random};
@@ -12,28 +11,24 @@ use super::requests::{ask, replay};
 /// The capacities whose settings are all walked.
 const CAPACITIES: [u32; 3] = [1, 2, 3];
 
-/// Traces that are all walked: how many pages, how many requests, and whether pages come in the order of their names.
-const SPANS: [Span; 3] = [
+/// A few traces, which show most differences.
+pub const FEW: &[Span] = &[span(7, 7, true)];
+
+/// Many traces.
+pub const MANY: &[Span] = &[span(4, 7, false), span(5, 6, false), span(8, 9, true)];
+
+/// The span with these numbers.
+const fn span(pages: usize, length: usize, in_turn: bool) -> Span {
     Span {
-        pages: 4,
-        length: 7,
-        in_turn: false,
-    },
-    Span {
-        pages: 5,
-        length: 6,
-        in_turn: false,
-    },
-    Span {
-        pages: 8,
-        length: 9,
-        in_turn: true,
-    },
-];
+        pages,
+        length,
+        in_turn,
+    }
+}
 
 /// Which traces are walked.
 #[derive(Clone, Copy)]
-struct Span {
+pub struct Span {
     pages: usize,
     length: usize,
     /// A page comes first only after all before it, so that no trace is another with its pages renamed.
@@ -53,22 +48,20 @@ impl Span {
 }
 
 /// Walks all traces of each span from a fresh directory of every settings.
-pub fn run(bench: &mut Bench, random: &mut Random) {
-    for settings in small_settings() {
-        for span in SPANS {
+pub fn run(bench: &mut Bench, random: &mut Random, spans: &[Span]) {
+    for span in spans {
+        for settings in small_settings() {
             let large_pages = random.one_in(2);
-            let pool = page_pool(random, span.pages, large_pages);
             let fresh = encode(&Directory::fresh(settings));
             let mut walk = Walk {
+                span: *span,
+                pool: page_pool(random, span.pages, large_pages),
+                fresh: &fresh,
+                trace: Vec::new(),
                 bench,
                 random,
-                span,
-                pool,
-                fresh,
-                trace: Vec::new(),
             };
-            let start = walk.fresh.clone();
-            walk.go_on(&start);
+            walk.go_on(&fresh);
         }
     }
 }
@@ -93,31 +86,28 @@ struct Walk<'a> {
     random: &'a mut Random,
     span: Span,
     pool: Vec<u32>,
-    fresh: Vec<u32>,
+    fresh: &'a [u32],
     trace: Vec<u32>,
 }
 
 impl Walk<'_> {
     /// Compares each request that may come next, and all that come after it; whole traces also as a replay.
     fn go_on(&mut self, words: &[u32]) {
-        if self.bench.is_done() {
-            return;
-        }
         if self.trace.len() == self.span.length {
             replay(
                 self.bench,
                 self.random,
                 "every order",
-                &self.fresh,
+                self.fresh,
                 &self.trace,
             );
             return;
         }
         for choice in 0..self.span.choices(&self.pool, &self.trace) {
             let page = self.pool[choice];
-            ask(self.bench, self.random, "every order", words, page);
-            let mut after = words.to_vec();
-            request(&mut after, page).expect("a request of a sound directory");
+            let Some(after) = ask(self.bench, self.random, "every order", words, page) else {
+                return;
+            };
             self.trace.push(page);
             self.go_on(&after);
             self.trace.pop();

@@ -1,6 +1,5 @@
 //! Requests and replays: random walks over every policy, damaged words, every refusal, long traces, and every order of few pages.
 
-use crate::calls::request;
 use crate::codec::encode;
 use crate::model::Directory;
 use crate::random::{page_pool, settings_at, sound_directory, trace_over, Random};
@@ -27,6 +26,7 @@ pub const LONG_CAPACITIES: [u32; 2] = [64, 512];
 
 /// Compares pd_request and pd_replay.
 pub fn run(bench: &mut Bench, random: &mut Random, scale: usize) {
+    orders::run(bench, random, orders::FEW);
     for policy in Policy::ALL {
         for capacity in CAPACITIES {
             for _ in 0..rounds(capacity, scale) {
@@ -37,9 +37,11 @@ pub fn run(bench: &mut Bench, random: &mut Random, scale: usize) {
             damaged(bench, random, policy);
         }
         refusals(bench, random, policy);
+    }
+    orders::run(bench, random, orders::MANY);
+    for policy in Policy::ALL {
         long(bench, random, policy);
     }
-    orders::run(bench, random);
 }
 
 /// How many walks are made at a capacity.
@@ -69,8 +71,10 @@ fn walk(bench: &mut Bench, random: &mut Random, policy: Policy, capacity: u32) {
     replay(bench, random, "a walk", &start, &trace);
     let mut words = start;
     for page in trace {
-        ask(bench, random, "a walk", &words, page);
-        request(&mut words, page).expect("a request of a sound directory");
+        let Some(after) = ask(bench, random, "a walk", &words, page) else {
+            return;
+        };
+        words = after;
     }
 }
 
@@ -101,27 +105,40 @@ fn refusals(bench: &mut Bench, random: &mut Random, policy: Policy) {
     let sound = encode(&Directory::fresh(settings));
     let unsound = garbage(random, sound.len());
     let shorter = &sound[..sound.len() - 1];
-    let plain = vec![4; 5];
-    let longest = vec![4; LONGEST];
-    let too_long = vec![4; LONGEST + 1];
-    let mut too_long_with_none = too_long.clone();
-    too_long_with_none[7] = NONE;
-    let none_last = [&plain[..], &[NONE]].concat();
+    let traces = chosen_traces(random);
     for words in [&sound[..], &unsound, shorter, &[]] {
         for page in [0, NONE - 1, NONE] {
             ask(bench, random, "a refusal", words, page);
         }
-        for trace in [
-            &[],
-            &plain[..],
-            &none_last,
-            &longest,
-            &too_long,
-            &too_long_with_none,
-        ] {
+        for trace in &traces {
             replay(bench, random, "a refusal", words, trace);
         }
     }
+}
+
+/// Traces that are empty, plain, with NONE at the front, inside or at the back, longest, and too long without and with NONE.
+pub fn chosen_traces(random: &mut Random) -> [Vec<u32>; 8] {
+    let pool = page_pool(random, 10, false);
+    let plain = trace_over(random, &pool, 30);
+    let longest = trace_over(random, &pool, LONGEST);
+    let too_long = trace_over(random, &pool, LONGEST + 1);
+    [
+        Vec::new(),
+        with_none(&plain, 0),
+        with_none(&plain, 15),
+        with_none(&plain, 29),
+        plain,
+        longest,
+        with_none(&too_long, 7),
+        too_long,
+    ]
+}
+
+/// The trace with NONE at a place.
+fn with_none(trace: &[u32], place: usize) -> Vec<u32> {
+    let mut trace = trace.to_vec();
+    trace[place] = NONE;
+    trace
 }
 
 /// Long replays of every shape.
@@ -139,17 +156,21 @@ fn long(bench: &mut Bench, random: &mut Random, policy: Policy) {
     }
 }
 
-/// Compares a request.
-pub fn ask(bench: &mut Bench, random: &mut Random, what: &str, words: &[u32], page: u32) {
+/// Compares a request and gives the words that the library left.
+pub fn ask(
+    bench: &mut Bench,
+    random: &mut Random,
+    what: &str,
+    words: &[u32],
+    page: u32,
+) -> Option<Vec<u32>> {
     let answer = [0; 4].map(|_: u32| random.next() as u32);
-    bench.compare(
-        what,
-        &Call::Request {
-            words,
-            page,
-            answer,
-        },
-    );
+    let call = Call::Request {
+        words,
+        page,
+        answer,
+    };
+    bench.compare(what, &call)?.lent.into_iter().next()
 }
 
 /// Compares a replay.
