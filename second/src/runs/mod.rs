@@ -17,6 +17,9 @@ const DEFAULT_SEED: u64 = 20_261_115;
 /// The generated texts when no number is given.
 const DEFAULT_TEXTS: usize = 3_000;
 
+/// In how many pieces a text of the table comes to the program: whole, and as through a slow pipe.
+const PIECES: [usize; 2] = [1, 3];
+
 /// How many differences are told in full.
 const TOLD: usize = 20;
 
@@ -61,10 +64,9 @@ struct Tally {
 }
 
 impl Tally {
-    /// Runs the program on a text and compares what it writes with what is expected.
-    fn compare(&mut self, plan: &Plan, what: &str, text: &[u8], expected: &str) -> io::Result<()> {
-        let written = process::output(&plan.program, text)?;
-        let written = String::from_utf8_lossy(&written).into_owned();
+    /// Counts a run and tells where what the program wrote differs from what is expected.
+    fn compare(&mut self, what: &str, text: &[u8], written: &[u8], expected: &str) {
+        let written = String::from_utf8_lossy(written).into_owned();
         let first = written.lines().next().unwrap_or("nothing").to_string();
         self.runs += 1;
         *self.first_lines.entry(first).or_default() += 1;
@@ -75,7 +77,17 @@ impl Tally {
                 println!("    on {:?}", shown(text));
             }
         }
-        Ok(())
+    }
+
+    /// Prints how often the program wrote which first line, and the verdict.
+    fn print(&self) {
+        for (line, runs) in &self.first_lines {
+            println!("{line}: {runs} runs");
+        }
+        println!(
+            "{} program runs, {} differences",
+            self.runs, self.differences
+        );
     }
 }
 
@@ -92,24 +104,33 @@ fn shown(text: &[u8]) -> String {
 /// Makes all runs, prints each difference and the verdict, and says whether there was none.
 pub fn run(plan: &Plan) -> io::Result<bool> {
     let mut tally = Tally::default();
+    run_table(plan, &mut tally)?;
+    println!("{} runs counted by hand", tally.runs);
+    run_generated(plan, &mut tally)?;
+    tally.print();
+    Ok(tally.differences == 0)
+}
+
+/// Runs the program on every text of the table.
+fn run_table(plan: &Plan, tally: &mut Tally) -> io::Result<()> {
     for row in table::rows() {
         let [refused, line, hits, loads, swaps] = row.numbers;
         let expected = five_lines(refused, line, Counts { hits, loads, swaps });
-        tally.compare(plan, &row.what, &row.text, &expected)?;
+        for pieces in PIECES {
+            let written = process::output(&plan.program, &row.text, pieces)?;
+            tally.compare(&row.what, &row.text, &written, &expected);
+        }
     }
-    let by_hand = tally.runs;
+    Ok(())
+}
+
+/// Runs the program on generated texts.
+fn run_generated(plan: &Plan, tally: &mut Tally) -> io::Result<()> {
     let mut random = Random::new(plan.seed);
     for _ in 0..plan.texts {
         let (what, text) = generated::text(&mut random);
-        tally.compare(plan, what, &text, &program::run(&text))?;
+        let written = process::output(&plan.program, &text, 1)?;
+        tally.compare(what, &text, &written, &program::run(&text));
     }
-    for (line, runs) in &tally.first_lines {
-        println!("{line}: {runs} runs");
-    }
-    println!("{by_hand} runs counted by hand, {} generated", plan.texts);
-    println!(
-        "{} program runs, {} differences",
-        tally.runs, tally.differences
-    );
-    Ok(tally.differences == 0)
+    Ok(())
 }
