@@ -29,6 +29,10 @@ pub no-second : {A B W : Type 0} {says : A → B} → Settles says → {said : B
     → (says r ≡ said) × (w ≡ left) → (says r′ ≡ said) × (w′ ≡ left) → (r ≡ r′) × (w ≡ w′)
 no-second settles {r = r} {r′ = r′} x y = (settles r r′ (x .0 ∙ sym (y .0)), x .1 ∙ sym (y .1))
 
+-- What an answer says, by the case that it is.
+pub case : {A B : Type 0} (says : A → B) {r r′ : A} {s : B} → says r ≡ s → r ≡ r′ → says r′ ≡ s
+case says e q = sym (ap says q) ∙ e
+
 -- An answer that can be told from what it says is settled by it.
 told : {A B : Type 0} (f : A → B) (g : B → A) → ((a : A) → g (f a) ≡ a) → Settles f
 told f g back a b e = sym (back a) ∙ ap g e ∙ back b

@@ -20,6 +20,10 @@ pub record Five : Type 0 where
 abbrev pub ended : ℕ → ℕ → Five
 ended n l = record { refused = n; line = l; counts = none }
 
+-- A replay that did not refuse gives its counts.
+abbrev pub finished : Counts → Five
+finished c = record { refused = 0; line = 0; counts = c }
+
 -- What follows, unless a call refused.
 abbrev pub onward : {A : Type 0} → Said A → (A → Five) → Five
 onward (refused n) f = ended n 0
@@ -27,7 +31,7 @@ onward (gave a) f = f a
 
 -- Replays the pages in the words of a directory.
 unfoldable pub replayIn : List ℕ → List ℕ → Five
-replayIn ws pages = onward (replayed ws pages .said) (λ c. record { refused = 0; line = 0; counts = c })
+replayIn ws pages = onward (replayed ws pages .said) finished
 
 -- Forms a directory in words lent for it, and replays the pages in it.
 unfoldable pub formIn : Settings → List ℕ → List ℕ → Five

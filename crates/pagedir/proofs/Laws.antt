@@ -10,6 +10,7 @@ use Rattle.meaning.specs.Calls.{Said, Outcome}
 use Rattle.meaning.specs.Text.{ReadSaid, readSaid, readText}
 use Rattle.meaning.specs.Answers.{readSays}
 use Rattle.meaning.specs.declared.ReadText.{ReadText}
+use Rattle.meaning.proofs.Injective.{case}
 use Rattle.trace_text.specs.Contracts.{ReadAs}
 use Rattle.pagedir.specs.Promises.{number, answers, Told, ToldAnd, Left, readNumber, readAnswers, ReadIn}
 
@@ -22,10 +23,6 @@ yes e t = sym (ap one (sym e ∙ t))
 pub nay : {a b : Bool} → a ≡ b → a ≡ false → 0 ≡ one b
 unfolding one
 nay e t = sym (ap one (sym e ∙ t))
-
--- What an answer says, by the case that it is.
-pub case : {A B : Type 0} (says : A → B) {r r′ : A} {s : B} → says r ≡ s → r ≡ r′ → says r′ ≡ s
-case says e q = sym (ap says q) ∙ e
 
 -- The number and the answer words of a call that said s.
 pub tells : {A : Type 0} (f : A → List ℕ) (s : Said A) {said : Said A} {before : List ℕ} → s ≡ said → Told f said before (number s) (answers f s before)

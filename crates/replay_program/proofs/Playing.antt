@@ -20,28 +20,21 @@ use Rattle.meaning.specs.declared.ReadText.the-variants as reads
 use Rattle.meaning.specs.Layout.{Settings, four, entriesOf, bitsOf, lengthFor, lengthOf, settingsRefusal}
 use Rattle.meaning.specs.Calls.{Said, refused, gave, Counts, refuse, refusalOf, formed as form, wordsFor, over}
 use Rattle.meaning.specs.Text.{Reading, unread, accepted, readText, readRefused, readGave, readSaid, readLeft}
-use Rattle.meaning.specs.Program.{Five, ended, onward, replayIn, formIn, playIn, programRoom, afterRead, programmed}
+use Rattle.meaning.specs.Program.{Five, ended, finished, onward, replayIn, formIn, playIn, programRoom, afterRead, programmed}
 use Rattle.meaning.specs.Answers.{replaySays, formSays, lengthSays, readSays}
 use Rattle.meaning.proofs.Accepted.{few-entries}
+use Rattle.meaning.proofs.Injective.{case}
 use Rattle.meaning.proofs.Fresh.{bits-small}
 use Rattle.form_look_report.specs.Forms.{FormedAs, LongAs}
 use Rattle.replay.specs.Turns.{ReplayedAs}
 use Rattle.trace_text.specs.Contracts.{ReadAs}
 
--- What a call says, by the case that its answer is.
-case : {A B : Type 0} (says : A → B) {r r′ : A} {s : B} → says r ≡ s → r ≡ r′ → says r′ ≡ s
-case says e q = sym (ap says q) ∙ e
-
 -- ── Replay ──
 
--- The counts of a replay.
-abbrev pub counted : Counts → Five
-counted c = record { refused = 0; line = 0; counts = c }
-
 -- What a replay says is what the program says.
-pub after-replay : {ws pages ws′ : List ℕ} {r : Replayed} (r′ : Replayed) → ReplayedAs ws pages r ws′ → r ≡ r′ → onward (replaySays r′) counted ≡ replayIn ws pages
+pub after-replay : {ws pages ws′ : List ℕ} {r : Replayed} (r′ : Replayed) → ReplayedAs ws pages r ws′ → r ≡ r′ → onward (replaySays r′) finished ≡ replayIn ws pages
 unfolding replayIn
-after-replay r′ x e = ap (λ (z : Said Counts). onward z counted) (case replaySays (x .answer) e)
+after-replay r′ x e = ap (λ (z : Said Counts). onward z finished) (case replaySays (x .answer) e)
 
 -- ── Form ──
 

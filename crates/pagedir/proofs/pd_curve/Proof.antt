@@ -4,7 +4,7 @@ use Rattle.pagedir.proofs.pd_curve.Tie as tie
 use mathlib.Core.Path.{ap}
 use Rattle.meaning.specs.Answers.{curveSays}
 use Rattle.pagedir.specs.Promises.{number}
-use Rattle.pagedir.proofs.Laws.{case}
+use Rattle.meaning.proofs.Injective.{case}
 
 pub pd-curve-spec : {M : Type 1} → statement M
 pd-curve-spec =

@@ -3,7 +3,8 @@ use Rattle.pagedir.proofs.pd_form.Statement.{statement}
 use Rattle.pagedir.proofs.pd_form.Tie as tie
 use Rattle.meaning.specs.Calls.{refused, gave}
 use Rattle.meaning.specs.Answers.{formSays}
-use Rattle.pagedir.proofs.Laws.{case, leaves}
+use Rattle.meaning.proofs.Injective.{case}
+use Rattle.pagedir.proofs.Laws.{leaves}
 
 pub pd-form-spec : {M : Type 1} → statement M
 pd-form-spec =

@@ -4,7 +4,8 @@ use Rattle.pagedir.proofs.pd_look.Tie as tie
 use Rattle.meaning.specs.Calls.{refused, gave, absent, heldIn, remembered}
 use Rattle.meaning.specs.Answers.{lookSays}
 use Rattle.pagedir.specs.Promises.{sightWords}
-use Rattle.pagedir.proofs.Laws.{case, tells}
+use Rattle.meaning.proofs.Injective.{case}
+use Rattle.pagedir.proofs.Laws.{tells}
 
 pub pd-look-spec : {M : Type 1} → statement M
 pd-look-spec =

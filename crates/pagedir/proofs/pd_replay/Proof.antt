@@ -2,7 +2,8 @@ use borrow.Author.Needs.{needs}
 use Rattle.meaning.specs.Calls.{refused, gave}
 use Rattle.meaning.specs.Answers.{replaySays}
 use Rattle.pagedir.specs.Promises.{countWords}
-use Rattle.pagedir.proofs.Laws.{case, tells-and}
+use Rattle.meaning.proofs.Injective.{case}
+use Rattle.pagedir.proofs.Laws.{tells-and}
 use Rattle.pagedir.proofs.pd_replay.Statement.{statement}
 use Rattle.pagedir.proofs.pd_replay.Tie as tie
 

@@ -4,7 +4,8 @@ use Rattle.meaning.specs.Room.{hit, loaded, swapped}
 use Rattle.meaning.specs.Calls.{refused, gave}
 use Rattle.meaning.specs.Answers.{requestSays}
 use Rattle.pagedir.specs.Promises.{replyWords}
-use Rattle.pagedir.proofs.Laws.{case, tells-and}
+use Rattle.meaning.proofs.Injective.{case}
+use Rattle.pagedir.proofs.Laws.{tells-and}
 use Rattle.pagedir.proofs.pd_request.Statement.{statement}
 use Rattle.pagedir.proofs.pd_request.Tie as tie
 

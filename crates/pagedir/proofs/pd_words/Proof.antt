@@ -4,7 +4,8 @@ use Rattle.pagedir.proofs.pd_words.Tie as tie
 use Rattle.meaning.specs.Calls.{refused, gave}
 use Rattle.meaning.specs.Answers.{lengthSays}
 use Rattle.pagedir.specs.Promises.{single}
-use Rattle.pagedir.proofs.Laws.{case, tells}
+use Rattle.meaning.proofs.Injective.{case}
+use Rattle.pagedir.proofs.Laws.{tells}
 
 pub pd-words-spec : {M : Type 1} → statement M
 pd-words-spec =

@@ -4,7 +4,8 @@ use Rattle.pagedir.proofs.pd_write.Tie as tie
 use Rattle.meaning.specs.Calls.{refused, gave}
 use Rattle.meaning.specs.Answers.{writeSays}
 use Rattle.pagedir.specs.Promises.{single}
-use Rattle.pagedir.proofs.Laws.{case, tells-and}
+use Rattle.meaning.proofs.Injective.{case}
+use Rattle.pagedir.proofs.Laws.{tells-and}
 
 pub pd-write-spec : {M : Type 1} → statement M
 pd-write-spec =
