@@ -4,8 +4,10 @@ use std::collections::BTreeMap;
 use std::panic::catch_unwind;
 
 use super::call::{Call, Seen};
+use super::expected::Expected;
+use super::library::Library;
+use super::side::Side;
 use super::slips::Slip;
-use super::{expected, library};
 
 /// How many differences are told in full.
 const TOLD: usize = 10;
@@ -45,9 +47,9 @@ impl Bench {
         if self.is_done() {
             return None;
         }
-        let seen = library::seen(call);
+        let seen = Library::seen(call);
         self.count(call.name(), seen.code as u32);
-        let Ok(mut expected) = catch_unwind(|| expected::seen(call)) else {
+        let Ok(mut expected) = catch_unwind(|| Expected::seen(call)) else {
             self.differ(format!("{} on {what}: the model stops", call.name()));
             return Some(seen);
         };

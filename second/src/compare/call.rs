@@ -1,57 +1,97 @@
 //! A call with all that is lent to it, and what C sees of it.
 
-/// One call: the numbers and the contents of every lent stretch before it.
+/// One call: its numbers and the contents of every lent stretch before it.
 #[derive(Clone, Copy, Debug)]
 pub enum Call<'a> {
-    Words {
-        settings: [u32; 4],
-        answer: [u32; 1],
-    },
-    Form {
-        settings: [u32; 4],
-        words: &'a [u32],
-    },
-    Audit {
-        words: &'a [u32],
-    },
-    Look {
-        words: &'a [u32],
-        page: u32,
-        answer: [u32; 2],
-    },
-    Report {
-        words: &'a [u32],
-        list: u32,
-        result: &'a [u32],
-        answer: [u32; 1],
-    },
-    Curve {
-        largest: u32,
-        trace: &'a [u32],
-        result: &'a [u32],
-        work: &'a [u32],
-    },
-    Read {
-        text: &'a [u8],
-        trace: &'a [u32],
-        answer: [u32; 5],
-    },
-    Write {
-        settings: [u32; 4],
-        trace: &'a [u32],
-        text: &'a [u8],
-        answer: [u32; 1],
-    },
-    Request {
-        words: &'a [u32],
-        page: u32,
-        answer: [u32; 4],
-    },
-    Replay {
-        words: &'a [u32],
-        trace: &'a [u32],
-        answer: [u32; 3],
-    },
+    Words(Words),
+    Form(Form<'a>),
+    Audit(Audit<'a>),
+    Look(Look<'a>),
+    Report(Report<'a>),
+    Curve(Curve<'a>),
+    Read(Read<'a>),
+    Write(Write<'a>),
+    Request(Request<'a>),
+    Replay(Replay<'a>),
+}
+
+/// A call of pd_words.
+#[derive(Clone, Copy, Debug)]
+pub struct Words {
+    pub settings: [u32; 4],
+    pub answer: [u32; 1],
+}
+
+/// A call of pd_form.
+#[derive(Clone, Copy, Debug)]
+pub struct Form<'a> {
+    pub settings: [u32; 4],
+    pub words: &'a [u32],
+}
+
+/// A call of pd_audit.
+#[derive(Clone, Copy, Debug)]
+pub struct Audit<'a> {
+    pub words: &'a [u32],
+}
+
+/// A call of pd_look.
+#[derive(Clone, Copy, Debug)]
+pub struct Look<'a> {
+    pub words: &'a [u32],
+    pub page: u32,
+    pub answer: [u32; 2],
+}
+
+/// A call of pd_report.
+#[derive(Clone, Copy, Debug)]
+pub struct Report<'a> {
+    pub words: &'a [u32],
+    pub list: u32,
+    pub result: &'a [u32],
+    pub answer: [u32; 1],
+}
+
+/// A call of pd_curve.
+#[derive(Clone, Copy, Debug)]
+pub struct Curve<'a> {
+    pub largest: u32,
+    pub trace: &'a [u32],
+    pub result: &'a [u32],
+    pub work: &'a [u32],
+}
+
+/// A call of pd_read.
+#[derive(Clone, Copy, Debug)]
+pub struct Read<'a> {
+    pub text: &'a [u8],
+    pub trace: &'a [u32],
+    pub answer: [u32; 5],
+}
+
+/// A call of pd_write.
+#[derive(Clone, Copy, Debug)]
+pub struct Write<'a> {
+    pub settings: [u32; 4],
+    pub trace: &'a [u32],
+    pub text: &'a [u8],
+    pub answer: [u32; 1],
+}
+
+/// A call of pd_request.
+#[derive(Clone, Copy, Debug)]
+pub struct Request<'a> {
+    pub words: &'a [u32],
+    pub page: u32,
+    pub answer: [u32; 4],
+}
+
+/// A call of pd_replay.
+#[derive(Clone, Copy, Debug)]
+pub struct Replay<'a> {
+    pub words: &'a [u32],
+    pub trace: &'a [u32],
+    pub answer: [u32; 3],
 }
 
 /// What C sees of a call: the number returned, every lent word afterwards, and whether the memory around is untouched.
@@ -67,16 +107,16 @@ impl Call<'_> {
     /// The name of the C function.
     pub fn name(&self) -> &'static str {
         match self {
-            Call::Words { .. } => "pd_words",
-            Call::Form { .. } => "pd_form",
-            Call::Audit { .. } => "pd_audit",
-            Call::Look { .. } => "pd_look",
-            Call::Report { .. } => "pd_report",
-            Call::Curve { .. } => "pd_curve",
-            Call::Read { .. } => "pd_read",
-            Call::Write { .. } => "pd_write",
-            Call::Request { .. } => "pd_request",
-            Call::Replay { .. } => "pd_replay",
+            Call::Words(_) => "pd_words",
+            Call::Form(_) => "pd_form",
+            Call::Audit(_) => "pd_audit",
+            Call::Look(_) => "pd_look",
+            Call::Report(_) => "pd_report",
+            Call::Curve(_) => "pd_curve",
+            Call::Read(_) => "pd_read",
+            Call::Write(_) => "pd_write",
+            Call::Request(_) => "pd_request",
+            Call::Replay(_) => "pd_replay",
         }
     }
 

@@ -6,11 +6,12 @@ use crate::refusal::Refusal;
 use crate::settings::{LARGEST_CAPACITY, LONGEST, NONE};
 
 use super::bench::Bench;
-use super::call::Call;
+use super::call::{Call, Curve};
 use super::forming::{garbage, CAPACITIES};
-use super::library;
+use super::library::Library;
 use super::requests::{chosen_traces, LONG_CAPACITIES};
 use super::shapes::Shape;
+use super::side::Side;
 
 /// Requests of a short trace times capacities, at most.
 const SHORT: usize = 40_000;
@@ -57,12 +58,12 @@ fn curve(bench: &mut Bench, random: &mut Random, what: &str, of: (u32, &[u32]), 
     let work = garbage(random, needed + more[1]);
     bench.compare(
         what,
-        &Call::Curve {
+        &Call::Curve(Curve {
             largest,
             trace,
             result: &result,
             work: &work,
-        },
+        }),
     );
 }
 
@@ -96,12 +97,12 @@ fn refusals(bench: &mut Bench, random: &mut Random) {
                 let (result, work) = (garbage(random, room), garbage(random, places));
                 bench.compare(
                     "a refusal",
-                    &Call::Curve {
+                    &Call::Curve(Curve {
                         largest,
                         trace,
                         result: &result,
                         work: &work,
-                    },
+                    }),
                 );
             }
         }
@@ -126,14 +127,14 @@ fn long(bench: &mut Bench, random: &mut Random, near: bool) {
     }
     let trace = trace(random, LONG, if near { 700 } else { 3_000 });
     let buffer = garbage(random, LARGEST_CAPACITY as usize + 3);
-    let call = Call::Curve {
+    let call = Call::Curve(Curve {
         largest: LARGEST_CAPACITY,
         trace: &trace,
         result: &buffer,
         work: &buffer,
-    };
+    });
     bench.compare("a long trace", &call);
-    let seen = library::seen(&call);
+    let seen = Library::seen(&call);
     for capacity in CAPACITIES {
         let (hits, pages) = lru(capacity, &trace);
         let place = capacity as usize - 1;

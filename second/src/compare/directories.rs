@@ -7,7 +7,7 @@ use crate::random::{page_pool, settings_at, sound_directory, trace_over, Random}
 use crate::settings::{Policy, Settings, ENTRY_WORDS, HEADER_WORDS, NONE};
 
 use super::bench::Bench;
-use super::call::Call;
+use super::call::{Audit, Call, Look, Report};
 use super::forming::{garbage, CAPACITIES};
 
 /// The largest capacity of which every single word is changed.
@@ -87,7 +87,7 @@ pub fn reached_directory(random: &mut Random, settings: Settings, pool: &[u32]) 
 
 /// A sound directory: every list with every kind of buffer, pages of every kind, and lengths off by one.
 fn whole(bench: &mut Bench, random: &mut Random, words: &[u32], pool: &[u32]) {
-    bench.compare("a sound directory", &Call::Audit { words });
+    bench.compare("a sound directory", &Call::Audit(Audit { words }));
     let shown = pool.iter().take(40).copied();
     for page in shown.chain([NONE, NONE - 1, 0]) {
         look(bench, random, "a sound directory", words, page);
@@ -222,7 +222,7 @@ fn lengths(bench: &mut Bench, random: &mut Random) {
 
 /// Compares audit, a look and a report on the words.
 fn all_three(bench: &mut Bench, random: &mut Random, what: &str, words: &[u32], pool: &[u32]) {
-    bench.compare(what, &Call::Audit { words });
+    bench.compare(what, &Call::Audit(Audit { words }));
     let page = if random.one_in(6) {
         NONE
     } else {
@@ -238,11 +238,11 @@ fn look(bench: &mut Bench, random: &mut Random, what: &str, words: &[u32], page:
     let answer = [random.next() as u32, random.next() as u32];
     bench.compare(
         what,
-        &Call::Look {
+        &Call::Look(Look {
             words,
             page,
             answer,
-        },
+        }),
     );
 }
 
@@ -259,11 +259,11 @@ fn report(
     let answer = [random.next() as u32];
     bench.compare(
         what,
-        &Call::Report {
+        &Call::Report(Report {
             words,
             list,
             result: &result,
             answer,
-        },
+        }),
     );
 }

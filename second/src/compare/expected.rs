@@ -1,4 +1,4 @@
-//! What the model expects C to see.
+//! The side that the library is held against: what C is to see by the model.
 
 use crate::calls::{self, Looked};
 use crate::policies::Answer;
@@ -6,55 +6,11 @@ use crate::refusal::Refusal;
 use crate::settings::NONE;
 use crate::text;
 
-use super::call::{widened, Call, Seen};
+use super::call::{
+    widened, Audit, Curve, Form, Look, Read, Replay, Report, Request, Seen, Words, Write,
+};
 use super::curves;
-
-/// What C is to see of the call.
-pub fn seen(call: &Call) -> Seen {
-    match *call {
-        Call::Words { settings, answer } => words(settings, answer),
-        Call::Form { settings, words } => form(settings, words),
-        Call::Audit { words } => said(u64::from(calls::audit(words)), vec![words.to_vec()]),
-        Call::Look {
-            words,
-            page,
-            answer,
-        } => look(words, page, answer),
-        Call::Report {
-            words,
-            list,
-            result,
-            answer,
-        } => report(words, list, result, answer),
-        Call::Curve {
-            largest,
-            trace,
-            result,
-            work,
-        } => curve(largest, trace, result, work),
-        Call::Read {
-            text,
-            trace,
-            answer,
-        } => read(text, trace, answer),
-        Call::Write {
-            settings,
-            trace,
-            text,
-            answer,
-        } => write(settings, trace, text, answer),
-        Call::Request {
-            words,
-            page,
-            answer,
-        } => request(words, page, answer),
-        Call::Replay {
-            words,
-            trace,
-            answer,
-        } => replay(words, trace, answer),
-    }
-}
+use super::side::Side;
 
 /// A number returned and the lent stretches afterwards.
 fn said(code: u64, lent: Vec<Vec<u32>>) -> Seen {
@@ -82,91 +38,103 @@ fn answered<const N: usize>(
     said(code_of(&outcome), lent)
 }
 
-/// What C is to see of pd_words.
-fn words(settings: [u32; 4], answer: [u32; 1]) -> Seen {
-    let [policy, capacity, first, second] = settings;
-    let outcome = calls::words_for(policy, capacity, first, second);
-    answered(outcome.map(|length| [length]), vec![], answer)
-}
+/// What is expected of the library.
+pub struct Expected;
 
-/// What C is to see of pd_form.
-fn form(settings: [u32; 4], words: &[u32]) -> Seen {
-    let [policy, capacity, first, second] = settings;
-    let mut words = words.to_vec();
-    let outcome = calls::form(policy, capacity, first, second, &mut words);
-    said(code_of(&outcome), vec![words])
-}
+impl Side for Expected {
+    /// What C is to see of pd_words.
+    fn words(call: &Words) -> Seen {
+        let [policy, capacity, first, second] = call.settings;
+        let outcome = calls::words_for(policy, capacity, first, second);
+        answered(outcome.map(|length| [length]), vec![], call.answer)
+    }
 
-/// What C is to see of pd_look.
-fn look(words: &[u32], page: u32, answer: [u32; 2]) -> Seen {
-    let outcome = calls::look(words, page).map(|looked| match looked {
-        Looked::Absent => [0, NONE],
-        Looked::Held(slot) => [1, slot],
-        Looked::Remembered => [2, NONE],
-    });
-    answered(outcome, vec![words.to_vec()], answer)
-}
+    /// What C is to see of pd_form.
+    fn form(call: &Form) -> Seen {
+        let [policy, capacity, first, second] = call.settings;
+        let mut words = call.words.to_vec();
+        let outcome = calls::form(policy, capacity, first, second, &mut words);
+        said(code_of(&outcome), vec![words])
+    }
 
-/// What C is to see of pd_report.
-fn report(words: &[u32], list: u32, result: &[u32], answer: [u32; 1]) -> Seen {
-    let mut result = result.to_vec();
-    let outcome = calls::report(words, list, &mut result).map(|count| [count]);
-    answered(outcome, vec![words.to_vec(), result], answer)
-}
+    /// What C is to see of pd_audit.
+    fn audit(call: &Audit) -> Seen {
+        let sound = calls::audit(call.words);
+        said(u64::from(sound), vec![call.words.to_vec()])
+    }
 
-/// What C is to see of pd_curve: a long trace goes by depths, which the curves check against the model.
-fn curve(largest: u32, trace: &[u32], result: &[u32], work: &[u32]) -> Seen {
-    let (mut hits, mut list) = (result.to_vec(), work.to_vec());
-    let outcome = if curves::is_long(largest, trace) {
-        curves::by_depths(largest, trace, &mut hits, &mut list)
-    } else {
-        calls::curve(largest, trace, &mut hits, &mut list)
-    };
-    said(code_of(&outcome), vec![trace.to_vec(), hits, list])
-}
+    /// What C is to see of pd_look.
+    fn look(call: &Look) -> Seen {
+        let outcome = calls::look(call.words, call.page).map(|looked| match looked {
+            Looked::Absent => [0, NONE],
+            Looked::Held(slot) => [1, slot],
+            Looked::Remembered => [2, NONE],
+        });
+        answered(outcome, vec![call.words.to_vec()], call.answer)
+    }
 
-/// What C is to see of pd_read.
-fn read(text: &[u8], trace: &[u32], answer: [u32; 5]) -> Seen {
-    let mut trace = trace.to_vec();
-    let outcome = text::read(text, &mut trace).map(|heading| {
-        [
-            heading.policy,
-            heading.capacity,
-            heading.first,
-            heading.second,
-            heading.count,
-        ]
-    });
-    answered(outcome, vec![widened(text), trace], answer)
-}
+    /// What C is to see of pd_report.
+    fn report(call: &Report) -> Seen {
+        let mut result = call.result.to_vec();
+        let outcome = calls::report(call.words, call.list, &mut result).map(|count| [count]);
+        answered(outcome, vec![call.words.to_vec(), result], call.answer)
+    }
 
-/// What C is to see of pd_write.
-fn write(settings: [u32; 4], trace: &[u32], text: &[u8], answer: [u32; 1]) -> Seen {
-    let [policy, capacity, first, second] = settings;
-    let mut text = text.to_vec();
-    let outcome = text::write(policy, capacity, first, second, trace, &mut text);
-    answered(
-        outcome.map(|length| [length]),
-        vec![trace.to_vec(), widened(&text)],
-        answer,
-    )
-}
+    /// What C is to see of pd_curve: a long trace goes by depths, which the curves check against the model.
+    fn curve(call: &Curve) -> Seen {
+        let (largest, trace) = (call.largest, call.trace);
+        let (mut hits, mut list) = (call.result.to_vec(), call.work.to_vec());
+        let outcome = if curves::is_long(largest, trace) {
+            curves::by_depths(largest, trace, &mut hits, &mut list)
+        } else {
+            calls::curve(largest, trace, &mut hits, &mut list)
+        };
+        said(code_of(&outcome), vec![trace.to_vec(), hits, list])
+    }
 
-/// What C is to see of pd_request.
-fn request(words: &[u32], page: u32, answer: [u32; 4]) -> Seen {
-    let mut words = words.to_vec();
-    let outcome = calls::request(&mut words, page).map(|answer| match answer {
-        Answer::Hit { slot, cleared } => [1, slot, NONE, cleared],
-        Answer::Loaded { slot, cleared } => [2, slot, NONE, cleared],
-        Answer::Swapped { slot, out, cleared } => [3, slot, out, cleared],
-    });
-    answered(outcome, vec![words], answer)
-}
+    /// What C is to see of pd_read.
+    fn read(call: &Read) -> Seen {
+        let mut trace = call.trace.to_vec();
+        let outcome = text::read(call.text, &mut trace).map(|heading| {
+            [
+                heading.policy,
+                heading.capacity,
+                heading.first,
+                heading.second,
+                heading.count,
+            ]
+        });
+        answered(outcome, vec![widened(call.text), trace], call.answer)
+    }
 
-/// What C is to see of pd_replay.
-fn replay(words: &[u32], trace: &[u32], answer: [u32; 3]) -> Seen {
-    let mut words = words.to_vec();
-    let outcome = calls::replay(&mut words, trace);
-    let outcome = outcome.map(|counts| [counts.hits, counts.loads, counts.swaps]);
-    answered(outcome, vec![words, trace.to_vec()], answer)
+    /// What C is to see of pd_write.
+    fn write(call: &Write) -> Seen {
+        let [policy, capacity, first, second] = call.settings;
+        let mut text = call.text.to_vec();
+        let outcome = text::write(policy, capacity, first, second, call.trace, &mut text);
+        answered(
+            outcome.map(|length| [length]),
+            vec![call.trace.to_vec(), widened(&text)],
+            call.answer,
+        )
+    }
+
+    /// What C is to see of pd_request.
+    fn request(call: &Request) -> Seen {
+        let mut words = call.words.to_vec();
+        let outcome = calls::request(&mut words, call.page).map(|answer| match answer {
+            Answer::Hit { slot, cleared } => [1, slot, NONE, cleared],
+            Answer::Loaded { slot, cleared } => [2, slot, NONE, cleared],
+            Answer::Swapped { slot, out, cleared } => [3, slot, out, cleared],
+        });
+        answered(outcome, vec![words], call.answer)
+    }
+
+    /// What C is to see of pd_replay.
+    fn replay(call: &Replay) -> Seen {
+        let mut words = call.words.to_vec();
+        let outcome = calls::replay(&mut words, call.trace);
+        let outcome = outcome.map(|counts| [counts.hits, counts.loads, counts.swaps]);
+        answered(outcome, vec![words, call.trace.to_vec()], call.answer)
+    }
 }

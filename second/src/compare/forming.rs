@@ -5,7 +5,7 @@ use crate::random::{settings_at, Random};
 use crate::settings::{Policy, NONE};
 
 use super::bench::Bench;
-use super::call::Call;
+use super::call::{Call, Form, Words};
 
 /// Capacities that are compared with every policy.
 pub const CAPACITIES: [u32; 8] = [1, 2, 3, 7, 8, 64, 511, 512];
@@ -83,7 +83,7 @@ fn random_settings(random: &mut Random) -> [u32; 4] {
 /// Compares the length that form asks.
 fn words(bench: &mut Bench, random: &mut Random, settings: [u32; 4]) {
     let answer = [random.next() as u32];
-    bench.compare("settings", &Call::Words { settings, answer });
+    bench.compare("settings", &Call::Words(Words { settings, answer }));
 }
 
 /// Compares form on garbage of the exact length, of lengths near it, and of none.
@@ -99,10 +99,10 @@ fn form_lengths(bench: &mut Bench, random: &mut Random, settings: [u32; 4]) {
         };
         bench.compare(
             what,
-            &Call::Form {
+            &Call::Form(Form {
                 settings,
                 words: &words,
-            },
+            }),
         );
     }
 }

@@ -1,7 +1,10 @@
-//! The library's functions, and what C sees of a call to them.
+//! The library's side: its functions, and what C sees of a call to them.
 
-use super::call::{widened, Call, Seen};
+use super::call::{
+    widened, Audit, Curve, Form, Look, Read, Replay, Report, Request, Seen, Words, Write,
+};
 use super::lent::Lent;
+use super::side::Side;
 
 /// What stands around lent words.
 const WORD_GUARD: u32 = 0xC0DE_CAFE;
@@ -64,53 +67,6 @@ extern "C" {
     fn pd_replay(words: *mut u32, n: usize, trace: *const u32, tn: usize, answer: *mut u32) -> u32;
 }
 
-/// What C sees of the call.
-pub fn seen(call: &Call) -> Seen {
-    match *call {
-        Call::Words { settings, answer } => words(settings, answer),
-        Call::Form { settings, words } => form(settings, words),
-        Call::Audit { words } => audit(words),
-        Call::Look {
-            words,
-            page,
-            answer,
-        } => look(words, page, answer),
-        Call::Report {
-            words,
-            list,
-            result,
-            answer,
-        } => report(words, list, result, answer),
-        Call::Curve {
-            largest,
-            trace,
-            result,
-            work,
-        } => curve(largest, trace, result, work),
-        Call::Read {
-            text,
-            trace,
-            answer,
-        } => read(text, trace, answer),
-        Call::Write {
-            settings,
-            trace,
-            text,
-            answer,
-        } => write(settings, trace, text, answer),
-        Call::Request {
-            words,
-            page,
-            answer,
-        } => request(words, page, answer),
-        Call::Replay {
-            words,
-            trace,
-            answer,
-        } => replay(words, trace, answer),
-    }
-}
-
 /// Guarded words.
 fn lend(contents: &[u32]) -> Lent<u32> {
     Lent::new(contents, WORD_GUARD)
@@ -137,115 +93,125 @@ fn with_bytes(mut seen: Seen, place: usize, bytes: &Lent<u8>) -> Seen {
     seen
 }
 
-/// What C sees of pd_words.
-fn words(settings: [u32; 4], answer: [u32; 1]) -> Seen {
-    let [policy, capacity, first, second] = settings;
-    let mut answer = lend(&answer);
-    let code = unsafe { pd_words(policy, capacity, first, second, answer.address()) };
-    words_seen(code, &[&answer])
-}
+/// The library, called as C calls it: each pointer is that of a stretch lent for the call, of the length handed over beside it.
+pub struct Library;
 
-/// What C sees of pd_form.
-fn form(settings: [u32; 4], words: &[u32]) -> Seen {
-    let [policy, capacity, first, second] = settings;
-    let mut words = lend(words);
-    let n = words.len();
-    let code = unsafe { pd_form(policy, capacity, first, second, words.address(), n) };
-    words_seen(code, &[&words])
-}
+impl Side for Library {
+    /// What C sees of pd_words.
+    fn words(call: &Words) -> Seen {
+        let [policy, capacity, first, second] = call.settings;
+        let mut answer = lend(&call.answer);
+        let code = unsafe { pd_words(policy, capacity, first, second, answer.address()) };
+        words_seen(code, &[&answer])
+    }
 
-/// What C sees of pd_audit.
-fn audit(words: &[u32]) -> Seen {
-    let mut words = lend(words);
-    let code = unsafe { pd_audit(words.address(), words.len()) };
-    words_seen(code, &[&words])
-}
+    /// What C sees of pd_form.
+    fn form(call: &Form) -> Seen {
+        let [policy, capacity, first, second] = call.settings;
+        let mut words = lend(call.words);
+        let n = words.len();
+        let code = unsafe { pd_form(policy, capacity, first, second, words.address(), n) };
+        words_seen(code, &[&words])
+    }
 
-/// What C sees of pd_look.
-fn look(words: &[u32], page: u32, answer: [u32; 2]) -> Seen {
-    let (mut words, mut answer) = (lend(words), lend(&answer));
-    let code = unsafe { pd_look(words.address(), words.len(), page, answer.address()) };
-    words_seen(code, &[&words, &answer])
-}
+    /// What C sees of pd_audit.
+    fn audit(call: &Audit) -> Seen {
+        let mut words = lend(call.words);
+        let code = unsafe { pd_audit(words.address(), words.len()) };
+        words_seen(code, &[&words])
+    }
 
-/// What C sees of pd_report.
-fn report(words: &[u32], list: u32, result: &[u32], answer: [u32; 1]) -> Seen {
-    let (mut words, mut result, mut answer) = (lend(words), lend(result), lend(&answer));
-    let (n, rn) = (words.len(), result.len());
-    let code = unsafe {
-        pd_report(
-            words.address(),
-            n,
-            list,
-            result.address(),
-            rn,
-            answer.address(),
-        )
-    };
-    words_seen(code, &[&words, &result, &answer])
-}
+    /// What C sees of pd_look.
+    fn look(call: &Look) -> Seen {
+        let (mut words, mut answer) = (lend(call.words), lend(&call.answer));
+        let code = unsafe { pd_look(words.address(), words.len(), call.page, answer.address()) };
+        words_seen(code, &[&words, &answer])
+    }
 
-/// What C sees of pd_curve.
-fn curve(largest: u32, trace: &[u32], result: &[u32], work: &[u32]) -> Seen {
-    let (mut trace, mut result, mut work) = (lend(trace), lend(result), lend(work));
-    let (tn, rn, wn) = (trace.len(), result.len(), work.len());
-    let code = unsafe {
-        pd_curve(
-            largest,
-            trace.address(),
-            tn,
-            result.address(),
-            rn,
-            work.address(),
-            wn,
-        )
-    };
-    words_seen(code, &[&trace, &result, &work])
-}
+    /// What C sees of pd_report.
+    fn report(call: &Report) -> Seen {
+        let (mut words, mut result) = (lend(call.words), lend(call.result));
+        let mut answer = lend(&call.answer);
+        let (n, rn) = (words.len(), result.len());
+        let code = unsafe {
+            pd_report(
+                words.address(),
+                n,
+                call.list,
+                result.address(),
+                rn,
+                answer.address(),
+            )
+        };
+        words_seen(code, &[&words, &result, &answer])
+    }
 
-/// What C sees of pd_read.
-fn read(text: &[u8], trace: &[u32], answer: [u32; 5]) -> Seen {
-    let (mut text, mut trace, mut answer) = (lend_bytes(text), lend(trace), lend(&answer));
-    let (n, tn) = (text.len(), trace.len());
-    let code = unsafe { pd_read(text.address(), n, trace.address(), tn, answer.address()) };
-    let mut seen = with_bytes(words_seen(0, &[&trace, &answer]), 0, &text);
-    seen.code = code;
-    seen
-}
+    /// What C sees of pd_curve.
+    fn curve(call: &Curve) -> Seen {
+        let mut trace = lend(call.trace);
+        let (mut result, mut work) = (lend(call.result), lend(call.work));
+        let (tn, rn, wn) = (trace.len(), result.len(), work.len());
+        let code = unsafe {
+            pd_curve(
+                call.largest,
+                trace.address(),
+                tn,
+                result.address(),
+                rn,
+                work.address(),
+                wn,
+            )
+        };
+        words_seen(code, &[&trace, &result, &work])
+    }
 
-/// What C sees of pd_write.
-fn write(settings: [u32; 4], trace: &[u32], text: &[u8], answer: [u32; 1]) -> Seen {
-    let [policy, capacity, first, second] = settings;
-    let (mut trace, mut text, mut answer) = (lend(trace), lend_bytes(text), lend(&answer));
-    let (tn, n) = (trace.len(), text.len());
-    let code = unsafe {
-        pd_write(
-            policy,
-            capacity,
-            first,
-            second,
-            trace.address(),
-            tn,
-            text.address(),
-            n,
-            answer.address(),
-        )
-    };
-    with_bytes(words_seen(code, &[&trace, &answer]), 1, &text)
-}
+    /// What C sees of pd_read.
+    fn read(call: &Read) -> Seen {
+        let mut text = lend_bytes(call.text);
+        let (mut trace, mut answer) = (lend(call.trace), lend(&call.answer));
+        let (n, tn) = (text.len(), trace.len());
+        let code = unsafe { pd_read(text.address(), n, trace.address(), tn, answer.address()) };
+        let mut seen = with_bytes(words_seen(0, &[&trace, &answer]), 0, &text);
+        seen.code = code;
+        seen
+    }
 
-/// What C sees of pd_request.
-fn request(words: &[u32], page: u32, answer: [u32; 4]) -> Seen {
-    let (mut words, mut answer) = (lend(words), lend(&answer));
-    let n = words.len();
-    let code = unsafe { pd_request(words.address(), n, page, answer.address()) };
-    words_seen(code, &[&words, &answer])
-}
+    /// What C sees of pd_write.
+    fn write(call: &Write) -> Seen {
+        let [policy, capacity, first, second] = call.settings;
+        let mut text = lend_bytes(call.text);
+        let (mut trace, mut answer) = (lend(call.trace), lend(&call.answer));
+        let (tn, n) = (trace.len(), text.len());
+        let code = unsafe {
+            pd_write(
+                policy,
+                capacity,
+                first,
+                second,
+                trace.address(),
+                tn,
+                text.address(),
+                n,
+                answer.address(),
+            )
+        };
+        with_bytes(words_seen(code, &[&trace, &answer]), 1, &text)
+    }
 
-/// What C sees of pd_replay.
-fn replay(words: &[u32], trace: &[u32], answer: [u32; 3]) -> Seen {
-    let (mut words, mut trace, mut answer) = (lend(words), lend(trace), lend(&answer));
-    let (n, tn) = (words.len(), trace.len());
-    let code = unsafe { pd_replay(words.address(), n, trace.address(), tn, answer.address()) };
-    words_seen(code, &[&words, &trace, &answer])
+    /// What C sees of pd_request.
+    fn request(call: &Request) -> Seen {
+        let (mut words, mut answer) = (lend(call.words), lend(&call.answer));
+        let n = words.len();
+        let code = unsafe { pd_request(words.address(), n, call.page, answer.address()) };
+        words_seen(code, &[&words, &answer])
+    }
+
+    /// What C sees of pd_replay.
+    fn replay(call: &Replay) -> Seen {
+        let (mut words, mut trace) = (lend(call.words), lend(call.trace));
+        let mut answer = lend(&call.answer);
+        let (n, tn) = (words.len(), trace.len());
+        let code = unsafe { pd_replay(words.address(), n, trace.address(), tn, answer.address()) };
+        words_seen(code, &[&words, &trace, &answer])
+    }
 }

@@ -11,6 +11,7 @@ mod library;
 mod orders;
 mod requests;
 mod shapes;
+mod side;
 mod slips;
 mod texts;
 

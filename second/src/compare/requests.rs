@@ -6,7 +6,7 @@ use crate::random::{page_pool, settings_at, sound_directory, trace_over, Random}
 use crate::settings::{Policy, LONGEST, NONE};
 
 use super::bench::Bench;
-use super::call::Call;
+use super::call::{Call, Replay, Request};
 use super::directories::reached_directory;
 use super::forming::{garbage, CAPACITIES};
 use super::orders;
@@ -165,11 +165,11 @@ pub fn ask(
     page: u32,
 ) -> Option<Vec<u32>> {
     let answer = [0; 4].map(|_: u32| random.next() as u32);
-    let call = Call::Request {
+    let call = Call::Request(Request {
         words,
         page,
         answer,
-    };
+    });
     bench.compare(what, &call)?.lent.into_iter().next()
 }
 
@@ -178,10 +178,10 @@ pub fn replay(bench: &mut Bench, random: &mut Random, what: &str, words: &[u32],
     let answer = [0; 3].map(|_: u32| random.next() as u32);
     bench.compare(
         what,
-        &Call::Replay {
+        &Call::Replay(Replay {
             words,
             trace,
             answer,
-        },
+        }),
     );
 }

@@ -5,7 +5,7 @@ use crate::calls::words_for;
 use crate::settings::{LONGEST, NONE};
 use crate::text;
 
-use super::call::{widened, Call, Seen};
+use super::call::{widened, Call, Curve, Form, Look, Read, Replay, Request, Seen, Words, Write};
 
 /// A slip: the call that it touches, what it is, and how it alters what is expected.
 pub struct Slip {
@@ -84,15 +84,15 @@ pub const SLIPS: &[Slip] = &[
 /// The settings of pd_words or pd_form.
 fn settings_of(call: &Call) -> [u32; 4] {
     match *call {
-        Call::Words { settings, .. } | Call::Form { settings, .. } => settings,
+        Call::Words(Words { settings, .. }) | Call::Form(Form { settings, .. }) => settings,
         _ => [0; 4],
     }
 }
 
 /// What was expected becomes a refusal: every lent stretch is as before.
-fn refuse(seen: &mut Seen, number: u64, before: Vec<Vec<u32>>) {
+fn refuse<const N: usize>(seen: &mut Seen, number: u64, before: [&[u32]; N]) {
     seen.code = number;
-    seen.lent = before;
+    seen.lent = before.map(<[u32]>::to_vec).to_vec();
 }
 
 /// 2Q's entries are 2C.
@@ -135,7 +135,7 @@ fn form_segmented_one(call: &Call, seen: &mut Seen) {
 
 /// Form leaves the last word.
 fn form_last_kept(call: &Call, seen: &mut Seen) {
-    if let (Call::Form { words, .. }, 0) = (call, seen.code) {
+    if let (Call::Form(Form { words, .. }), 0) = (call, seen.code) {
         seen.lent[0][words.len() - 1] = words[words.len() - 1];
     }
 }
@@ -238,7 +238,7 @@ fn audit_early_ghosts(_: &Call, seen: &mut Seen) {
 
 /// A page that is none is refused before unsound words.
 fn look_six_first(call: &Call, seen: &mut Seen) {
-    if let (Call::Look { page: NONE, .. }, 5) = (call, seen.code) {
+    if let (Call::Look(Look { page: NONE, .. }), 5) = (call, seen.code) {
         seen.code = 6;
     }
 }
@@ -259,14 +259,9 @@ fn look_ghost_slot(_: &Call, seen: &mut Seen) {
 
 /// The largest page is taken for none.
 fn look_largest(call: &Call, seen: &mut Seen) {
-    if let Call::Look {
-        words,
-        page,
-        answer,
-    } = call
-    {
-        if *page == NONE - 1 && seen.code == 0 {
-            refuse(seen, 6, vec![words.to_vec(), answer.to_vec()]);
+    if let Call::Look(look) = call {
+        if look.page == NONE - 1 && seen.code == 0 {
+            refuse(seen, 6, [look.words, &look.answer]);
         }
     }
 }
@@ -287,17 +282,10 @@ fn report_eight_first(_: &Call, seen: &mut Seen) {
 
 /// A buffer that is just long enough is refused.
 fn report_exact(call: &Call, seen: &mut Seen) {
-    if let Call::Report {
-        words,
-        result,
-        answer,
-        ..
-    } = call
-    {
-        let exact = seen.lent[2][0] as usize == result.len();
-        if seen.code == 0 && exact && !result.is_empty() {
-            let before = vec![words.to_vec(), result.to_vec(), answer.to_vec()];
-            refuse(seen, 8, before);
+    if let Call::Report(report) = call {
+        let exact = seen.lent[2][0] as usize == report.result.len();
+        if seen.code == 0 && exact && !report.result.is_empty() {
+            refuse(seen, 8, [report.words, report.result, &report.answer]);
         }
     }
 }
@@ -342,11 +330,8 @@ fn curve_six_first(_: &Call, seen: &mut Seen) {
 
 /// Only the result is checked for its length.
 fn curve_short_work(call: &Call, seen: &mut Seen) {
-    if let Call::Curve {
-        largest, result, ..
-    } = call
-    {
-        if seen.code == 8 && result.len() >= *largest as usize {
+    if let Call::Curve(curve) = call {
+        if seen.code == 8 && curve.result.len() >= curve.largest as usize {
             seen.code = 0;
         }
     }
@@ -355,7 +340,7 @@ fn curve_short_work(call: &Call, seen: &mut Seen) {
 /// The number of words that a curve wrote, 0 on a refusal.
 fn curve_words(call: &Call, seen: &Seen) -> usize {
     match call {
-        Call::Curve { largest, .. } if seen.code == 0 => *largest as usize,
+        Call::Curve(Curve { largest, .. }) if seen.code == 0 => *largest as usize,
         _ => 0,
     }
 }
@@ -371,7 +356,7 @@ fn curve_last_hits(call: &Call, seen: &mut Seen) {
 /// Work words past the list's end are left.
 fn curve_kept(call: &Call, seen: &mut Seen) {
     let count = curve_words(call, seen);
-    if let Call::Curve { work, .. } = call {
+    if let Call::Curve(Curve { work, .. }) = call {
         for place in 0..count {
             if seen.lent[2][place] == NONE {
                 seen.lent[2][place] = work[place];
@@ -382,19 +367,9 @@ fn curve_kept(call: &Call, seen: &mut Seen) {
 
 /// The longest trace is refused.
 fn curve_longest(call: &Call, seen: &mut Seen) {
-    if let Call::Curve {
-        trace,
-        result,
-        work,
-        ..
-    } = call
-    {
-        if trace.len() == LONGEST && seen.code == 0 {
-            refuse(
-                seen,
-                7,
-                vec![trace.to_vec(), result.to_vec(), work.to_vec()],
-            );
+    if let Call::Curve(curve) = call {
+        if curve.trace.len() == LONGEST && seen.code == 0 {
+            refuse(seen, 7, [curve.trace, curve.result, curve.work]);
         }
     }
 }
@@ -438,7 +413,7 @@ fn read_eight_first(_: &Call, seen: &mut Seen) {
 
 /// The first page is stored though a later line is wrong.
 fn read_stores(call: &Call, seen: &mut Seen) {
-    if let Call::Read { text, .. } = call {
+    if let Call::Read(Read { text, .. }) = call {
         let first = String::from_utf8_lossy(text)
             .lines()
             .nth(5)
@@ -451,7 +426,7 @@ fn read_stores(call: &Call, seen: &mut Seen) {
 
 /// A text is accepted if it is with its first `old` turned to `new`.
 fn read_mended(call: &Call, seen: &mut Seen, old: &str, new: &str) {
-    if let (Call::Read { text, trace, .. }, 10) = (call, seen.code & 0xFFFF_FFFF) {
+    if let (Call::Read(Read { text, trace, .. }), 10) = (call, seen.code & 0xFFFF_FFFF) {
         let mended = String::from_utf8_lossy(text).replacen(old, new, 1);
         if text::read(mended.as_bytes(), &mut trace.to_vec()).is_ok() {
             seen.code = 0;
@@ -478,19 +453,9 @@ fn read_cleared(_: &Call, seen: &mut Seen) {
 
 /// A text buffer that is just long enough is refused.
 fn write_exact(call: &Call, seen: &mut Seen) {
-    if let Call::Write {
-        trace,
-        text,
-        answer,
-        ..
-    } = call
-    {
-        if seen.code == 0 && seen.lent[2][0] as usize == text.len() {
-            refuse(
-                seen,
-                8,
-                vec![trace.to_vec(), widened(text), answer.to_vec()],
-            );
+    if let Call::Write(write) = call {
+        if seen.code == 0 && seen.lent[2][0] as usize == write.text.len() {
+            refuse(seen, 8, [write.trace, &widened(write.text), &write.answer]);
         }
     }
 }
@@ -512,7 +477,7 @@ fn write_cleared(_: &Call, seen: &mut Seen) {
 
 /// The last line is left without its end.
 fn write_no_end(call: &Call, seen: &mut Seen) {
-    if let (Call::Write { text, .. }, 0) = (call, seen.code) {
+    if let (Call::Write(Write { text, .. }), 0) = (call, seen.code) {
         let last = seen.lent[2][0] as usize - 1;
         seen.lent[1][last] = u32::from(text[last]);
         seen.lent[2][0] -= 1;
@@ -521,7 +486,7 @@ fn write_no_end(call: &Call, seen: &mut Seen) {
 
 /// A page that is none is refused before unsound words.
 fn request_six_first(call: &Call, seen: &mut Seen) {
-    if let (Call::Request { page: NONE, .. }, 5) = (call, seen.code) {
+    if let (Call::Request(Request { page: NONE, .. }), 5) = (call, seen.code) {
         seen.code = 6;
     }
 }
@@ -542,7 +507,7 @@ fn request_out(_: &Call, seen: &mut Seen) {
 
 /// Word 6 is not written.
 fn request_dial(call: &Call, seen: &mut Seen) {
-    if let (Call::Request { words, .. }, 0) = (call, seen.code) {
+    if let (Call::Request(Request { words, .. }), 0) = (call, seen.code) {
         seen.lent[0][6] = words[6];
     }
 }
@@ -571,22 +536,16 @@ fn replay_six_first(_: &Call, seen: &mut Seen) {
 
 /// The words are left as they were.
 fn replay_idle(call: &Call, seen: &mut Seen) {
-    if let Call::Replay { words, .. } = call {
+    if let Call::Replay(Replay { words, .. }) = call {
         seen.lent[0] = words.to_vec();
     }
 }
 
 /// The longest trace is refused.
 fn replay_longest(call: &Call, seen: &mut Seen) {
-    if let Call::Replay {
-        words,
-        trace,
-        answer,
-    } = call
-    {
-        if trace.len() == LONGEST && seen.code == 0 {
-            let before = vec![words.to_vec(), trace.to_vec(), answer.to_vec()];
-            refuse(seen, 7, before);
+    if let Call::Replay(replay) = call {
+        if replay.trace.len() == LONGEST && seen.code == 0 {
+            refuse(seen, 7, [replay.words, replay.trace, &replay.answer]);
         }
     }
 }

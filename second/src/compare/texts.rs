@@ -5,7 +5,7 @@ use crate::random::{page_pool, trace_over, Random};
 use crate::settings::{LONGEST, NONE};
 
 use super::bench::Bench;
-use super::call::Call;
+use super::call::{Call, Read, Write};
 use super::forming::garbage;
 
 /// Generated texts for each unit of scale.
@@ -105,11 +105,11 @@ fn read(bench: &mut Bench, random: &mut Random, what: &str, text: &[u8], room: u
     let answer = [0; 5].map(|_: u32| random.next() as u32);
     bench.compare(
         what,
-        &Call::Read {
+        &Call::Read(Read {
             text,
             trace: &trace,
             answer,
-        },
+        }),
     );
 }
 
@@ -126,11 +126,11 @@ fn write(
     let answer = [random.next() as u32];
     bench.compare(
         what,
-        &Call::Write {
+        &Call::Write(Write {
             settings,
             trace,
             text: &text,
             answer,
-        },
+        }),
     );
 }
