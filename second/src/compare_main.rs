@@ -9,6 +9,7 @@ mod compare;
 mod draft;
 #[allow(dead_code)]
 mod model;
+mod pagedir;
 #[allow(dead_code)]
 mod policies;
 mod random;

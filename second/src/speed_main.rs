@@ -1,21 +1,11 @@
 //! How long the static library takes for whole traces at the largest capacity.
 
+#[allow(dead_code)]
+mod pagedir;
+
 use std::time::Instant;
 
-extern "C" {
-    fn pd_words(p: u32, c: u32, f: u32, s: u32, answer: *mut u32) -> u32;
-    fn pd_form(p: u32, c: u32, f: u32, s: u32, words: *mut u32, n: usize) -> u32;
-    fn pd_replay(words: *mut u32, n: usize, trace: *const u32, tn: usize, answer: *mut u32) -> u32;
-    fn pd_curve(
-        largest: u32,
-        trace: *const u32,
-        tn: usize,
-        result: *mut u32,
-        rn: usize,
-        work: *mut u32,
-        wn: usize,
-    ) -> u32;
-}
+use pagedir::{pd_curve, pd_form, pd_replay, pd_words};
 
 /// The largest capacity.
 const CAPACITY: u32 = 512;

@@ -1,4 +1,9 @@
-//! The library's side: its functions, and what C sees of a call to them.
+//! The library's side: what C sees of a call to its functions.
+
+use crate::pagedir::{
+    pd_audit, pd_curve, pd_form, pd_look, pd_read, pd_replay, pd_report, pd_request, pd_words,
+    pd_write,
+};
 
 use super::call::{
     widened, Audit, Curve, Form, Look, Read, Replay, Report, Request, Seen, Words, Write,
@@ -11,61 +16,6 @@ const WORD_GUARD: u32 = 0xC0DE_CAFE;
 
 /// What stands around lent bytes.
 const BYTE_GUARD: u8 = 0xA7;
-
-extern "C" {
-    /// The length that form asks.
-    fn pd_words(policy: u32, capacity: u32, first: u32, second: u32, answer: *mut u32) -> u32;
-    /// Writes a fresh directory over the words.
-    fn pd_form(
-        policy: u32,
-        capacity: u32,
-        first: u32,
-        second: u32,
-        words: *mut u32,
-        n: usize,
-    ) -> u32;
-    /// 1 if the words are a sound directory, else 0.
-    fn pd_audit(words: *const u32, n: usize) -> u32;
-    /// Where a page is, and its slot.
-    fn pd_look(words: *const u32, n: usize, page: u32, answer: *mut u32) -> u32;
-    /// The pages of a list, front first.
-    fn pd_report(
-        words: *const u32,
-        n: usize,
-        list: u32,
-        result: *mut u32,
-        rn: usize,
-        answer: *mut u32,
-    ) -> u32;
-    /// The LRU hits at each capacity, and the LRU list at the largest.
-    fn pd_curve(
-        largest: u32,
-        trace: *const u32,
-        tn: usize,
-        result: *mut u32,
-        rn: usize,
-        work: *mut u32,
-        wn: usize,
-    ) -> u32;
-    /// Reads a trace text: the refusal in the low half, its line in the high half.
-    fn pd_read(text: *const u8, n: usize, trace: *mut u32, tn: usize, answer: *mut u32) -> u64;
-    /// Writes a trace text.
-    fn pd_write(
-        policy: u32,
-        capacity: u32,
-        first: u32,
-        second: u32,
-        trace: *const u32,
-        tn: usize,
-        text: *mut u8,
-        n: usize,
-        answer: *mut u32,
-    ) -> u32;
-    /// Asks the directory for a page.
-    fn pd_request(words: *mut u32, n: usize, page: u32, answer: *mut u32) -> u32;
-    /// Does the requests of a trace in turn.
-    fn pd_replay(words: *mut u32, n: usize, trace: *const u32, tn: usize, answer: *mut u32) -> u32;
-}
 
 /// Guarded words.
 fn lend(contents: &[u32]) -> Lent<u32> {
