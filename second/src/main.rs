@@ -3,6 +3,8 @@
 mod audit;
 mod calls;
 mod codec;
+#[allow(dead_code)]
+mod command;
 mod judge;
 mod model;
 mod policies;
@@ -15,17 +17,18 @@ mod text;
 mod vectors;
 mod view;
 
-use std::env;
 use std::io::{self, Read, Write};
 use std::path::Path;
 use std::process::ExitCode;
+
+use command::fail;
 
 /// How the program is called.
 const USAGE: &str = "usage: second self-test | second vectors DIR [SEED] | second replay < TEXT";
 
 /// Runs the command that the arguments name.
 fn main() -> ExitCode {
-    let arguments: Vec<String> = env::args().skip(1).collect();
+    let arguments = command::arguments();
     let words: Vec<&str> = arguments.iter().map(String::as_str).collect();
     let succeeded = match words[..] {
         ["self-test"] => selftest::run(),
@@ -36,11 +39,7 @@ fn main() -> ExitCode {
         ["replay"] => replay_input().map_or_else(|error| fail(&error.to_string()), |()| true),
         _ => fail(USAGE),
     };
-    if succeeded {
-        ExitCode::SUCCESS
-    } else {
-        ExitCode::FAILURE
-    }
+    command::exit_code(succeeded)
 }
 
 /// Writes the vectors and says whether that went well.
@@ -54,10 +53,4 @@ fn replay_input() -> io::Result<()> {
     let mut input = Vec::new();
     io::stdin().read_to_end(&mut input)?;
     io::stdout().write_all(program::run(&input).as_bytes())
-}
-
-/// Tells what went wrong.
-fn fail(message: &str) -> bool {
-    eprintln!("{message}");
-    false
 }

@@ -15,6 +15,7 @@ mod side;
 mod slips;
 mod texts;
 
+use crate::command::fail;
 use crate::random::Random;
 use bench::Bench;
 use slips::{Slip, SLIPS};
@@ -142,10 +143,4 @@ fn catch_all(plan: &Plan) -> bool {
     }
     println!("{planted} slips planted, {missed} not caught");
     missed == 0
-}
-
-/// Tells what went wrong.
-fn fail(message: &str) -> bool {
-    eprintln!("{message}");
-    false
 }
