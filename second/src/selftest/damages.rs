@@ -18,9 +18,93 @@ const DAMAGES: usize = 60;
 /// Pieces of senseless words.
 const SENSELESS: usize = 20_000;
 
+/// Damages of LRU with C 2 after 7 9 7 5, as place, value and first broken rule, worked out by hand.
+const LRU_DAMAGES: &[(usize, u32, u32)] = &[
+    (0, 0, 1),
+    (0, 2, 4),
+    (0, 5, 1),
+    (1, 1, 1),
+    (2, 3, 1),
+    (3, 2, 1),
+    (4, 1, 1),
+    (5, 1, 1),
+    (6, 1, 2),
+    (15, NONE, 2),
+    (7, 0, 4),
+    (7, NONE, 4),
+    (8, 1, 4),
+    (8, 2, 4),
+    (9, 0, 4),
+    (14, 1, 4),
+    (16, NONE, 3),
+    (16, 5, 5),
+    (16, 9, 7),
+    (17, 0, 3),
+    (17, 2, 3),
+    (18, 1, 6),
+    (18, 2, 6),
+    (18, NONE, 6),
+    (19, NONE, 4),
+    (20, 0, 4),
+    (20, 1, 4),
+    (21, 0, 7),
+    (21, 1, 7),
+    (22, 1, 3),
+    (23, 1, 3),
+    (29, NONE, 7),
+    (29, 2, 7),
+    (32, 0, 7),
+    (32, NONE, 7),
+    (33, 0, 7),
+    (16, 0, 0),
+];
+
+/// Damages of CLOCK with C 3 after 1 2 3 1 4, as place, value and first broken rule, worked out by hand: 1 4 3 in the slots, the hand at 2.
+const CLOCK_DAMAGES: &[(usize, u32, u32)] = &[
+    (0, 1, 2),
+    (6, 0, 0),
+    (6, 1, 0),
+    (6, 3, 2),
+    (7, 0, 4),
+    (8, 2, 4),
+    (13, 0, 4),
+    (16, 3, 5),
+    (17, 2, 3),
+    (18, 1, 4),
+    (18, NONE, 4),
+    (19, 1, 4),
+    (20, 0, 4),
+    (22, 1, 0),
+    (30, 1, 0),
+    (30, 2, 3),
+    (39, 1, 3),
+];
+
+/// Damages of ARC with C 2 after 1 2 1 3, as place, value and first broken rule, worked out by hand: T1 3, T2 1, B1 2; entries 1 2 3 and a free one.
+const ARC_DAMAGES: &[(usize, u32, u32)] = &[
+    (0, 1, 1),
+    (6, 1, 0),
+    (6, 2, 0),
+    (6, 3, 2),
+    (7, 1, 4),
+    (13, 3, 4),
+    (17, 1, 4),
+    (17, 5, 3),
+    (25, 4, 4),
+    (25, 1, 4),
+    (26, 0, 6),
+    (26, 1, 6),
+    (34, 0, 6),
+    (34, 2, 6),
+    (34, NONE, 6),
+    (38, 1, 3),
+    (40, 9, 3),
+    (41, 1, 3),
+];
+
 /// Runs all damages.
 pub fn run(tally: &mut Tally, random: &mut Random) -> String {
-    chosen_damages(tally);
+    chosen_lru_damages(tally);
     chosen_clock_damages(tally);
     chosen_arc_damages(tally);
     chosen_limits(tally);
@@ -56,49 +140,10 @@ fn words_after(settings: [u32; 4], trace: &[u32]) -> Vec<u32> {
     words
 }
 
-/// Damages of LRU with C 2 after 7 9 7 5, worked out by hand.
-fn chosen_damages(tally: &mut Tally) {
+/// Changed words of LRU, and words cut off or with one more.
+fn chosen_lru_damages(tally: &mut Tally) {
     let mut words = words_after([1, 2, 0, 0], &[7, 9, 7, 5]);
-    let rows = [
-        (0, 0, 1),
-        (0, 2, 4),
-        (0, 5, 1),
-        (1, 1, 1),
-        (2, 3, 1),
-        (3, 2, 1),
-        (4, 1, 1),
-        (5, 1, 1),
-        (6, 1, 2),
-        (15, NONE, 2),
-        (7, 0, 4),
-        (7, NONE, 4),
-        (8, 1, 4),
-        (8, 2, 4),
-        (9, 0, 4),
-        (14, 1, 4),
-        (16, NONE, 3),
-        (16, 5, 5),
-        (16, 9, 7),
-        (17, 0, 3),
-        (17, 2, 3),
-        (18, 1, 6),
-        (18, 2, 6),
-        (18, NONE, 6),
-        (19, NONE, 4),
-        (20, 0, 4),
-        (20, 1, 4),
-        (21, 0, 7),
-        (21, 1, 7),
-        (22, 1, 3),
-        (23, 1, 3),
-        (29, NONE, 7),
-        (29, 2, 7),
-        (32, 0, 7),
-        (32, NONE, 7),
-        (33, 0, 7),
-        (16, 0, 0),
-    ];
-    check_rows(tally, &words, &rows);
+    check_rows(tally, &words, LRU_DAMAGES);
     for length in 0..words.len() {
         tally.equal("cut words", first_broken_rule(&words[..length]), 1);
     }
@@ -106,29 +151,10 @@ fn chosen_damages(tally: &mut Tally) {
     tally.equal("a word more", first_broken_rule(&words), 1);
 }
 
-/// Damages of CLOCK with C 3 after 1 2 3 1 4, worked out by hand: 1 4 3 in the slots, the hand at 2.
+/// Changed words of CLOCK, and of a fresh CLOCK.
 fn chosen_clock_damages(tally: &mut Tally) {
     let words = words_after([2, 3, 0, 0], &[1, 2, 3, 1, 4]);
-    let rows = [
-        (0, 1, 2),
-        (6, 0, 0),
-        (6, 1, 0),
-        (6, 3, 2),
-        (7, 0, 4),
-        (8, 2, 4),
-        (13, 0, 4),
-        (16, 3, 5),
-        (17, 2, 3),
-        (18, 1, 4),
-        (18, NONE, 4),
-        (19, 1, 4),
-        (20, 0, 4),
-        (22, 1, 0),
-        (30, 1, 0),
-        (30, 2, 3),
-        (39, 1, 3),
-    ];
-    check_rows(tally, &words, &rows);
+    check_rows(tally, &words, CLOCK_DAMAGES);
     check_rows(
         tally,
         &formed(2, 3, 0, 0),
@@ -143,30 +169,10 @@ fn chosen_clock_damages(tally: &mut Tally) {
     );
 }
 
-/// Damages of ARC with C 2 after 1 2 1 3, worked out by hand: T1 3, T2 1, B1 2; entries 1 2 3 and a free one.
+/// Changed words of ARC.
 fn chosen_arc_damages(tally: &mut Tally) {
     let words = words_after([5, 2, 0, 0], &[1, 2, 1, 3]);
-    let rows = [
-        (0, 1, 1),
-        (6, 1, 0),
-        (6, 2, 0),
-        (6, 3, 2),
-        (7, 1, 4),
-        (13, 3, 4),
-        (17, 1, 4),
-        (17, 5, 3),
-        (25, 4, 4),
-        (25, 1, 4),
-        (26, 0, 6),
-        (26, 1, 6),
-        (34, 0, 6),
-        (34, 2, 6),
-        (34, NONE, 6),
-        (38, 1, 3),
-        (40, 9, 3),
-        (41, 1, 3),
-    ];
-    check_rows(tally, &words, &rows);
+    check_rows(tally, &words, ARC_DAMAGES);
 }
 
 /// Limits of rule h, broken by list sizes alone.

@@ -1,20 +1,49 @@
-//! Every refusal of the calls over words, in its order, with nothing changed.
+//! Every refusal of the calls over words, in its order, with nothing changed, and a few answers beside.
 
 use crate::calls::{
     audit, curve, form, look, replay, report, request, slot_for, words_for, Counts, Looked,
 };
 use crate::random::Random;
-use crate::refusal::Refusal;
+use crate::refusal::Refusal::{self, CapacityRange, SettingRange, UnknownPolicy};
 use crate::settings::NONE;
 
 use super::bench::formed;
 use super::tally::Tally;
 
+/// Settings that form refuses, and why.
+const REFUSED_SETTINGS: &[([u32; 4], Refusal)] = &[
+    ([0, 0, 9, 9], UnknownPolicy),
+    ([6, 4, 0, 0], UnknownPolicy),
+    ([NONE, NONE, NONE, NONE], UnknownPolicy),
+    ([1, 0, 9, 9], CapacityRange),
+    ([2, 513, 9, 9], CapacityRange),
+    ([5, NONE, 0, 0], CapacityRange),
+    ([3, 1, 1, 0], CapacityRange),
+    ([4, 1, 1, 1], CapacityRange),
+    ([1, 4, 1, 0], SettingRange),
+    ([1, 4, 0, 1], SettingRange),
+    ([2, 4, 1, 0], SettingRange),
+    ([2, 4, 0, 1], SettingRange),
+    ([5, 4, 1, 0], SettingRange),
+    ([5, 4, 0, 1], SettingRange),
+    ([3, 4, 0, 0], SettingRange),
+    ([3, 4, 4, 0], SettingRange),
+    ([3, 4, 3, 1], SettingRange),
+    ([4, 4, 0, 1], SettingRange),
+    ([4, 4, 4, 1], SettingRange),
+    ([4, 4, 1, 0], SettingRange),
+    ([4, 4, 1, 5], SettingRange),
+    ([4, 4, NONE, NONE], SettingRange),
+];
+
 /// Runs all refusal checks.
 pub fn run(tally: &mut Tally, _random: &mut Random) -> String {
     forms(tally);
-    requests(tally);
+    audits(tally);
+    unsound_requests(tally);
+    slots(tally);
     looks(tally);
+    fresh_lists(tally);
     reports(tally);
     replays(tally);
     curves(tally);
@@ -23,43 +52,18 @@ pub fn run(tally: &mut Tally, _random: &mut Random) -> String {
 
 /// Form's refusals and the lengths asked for.
 fn forms(tally: &mut Tally) {
-    use Refusal::{CapacityRange, SettingRange, UnknownPolicy};
-    let rows = [
-        ((0, 0, 9, 9), UnknownPolicy),
-        ((6, 4, 0, 0), UnknownPolicy),
-        ((NONE, NONE, NONE, NONE), UnknownPolicy),
-        ((1, 0, 9, 9), CapacityRange),
-        ((2, 513, 9, 9), CapacityRange),
-        ((5, NONE, 0, 0), CapacityRange),
-        ((3, 1, 1, 0), CapacityRange),
-        ((4, 1, 1, 1), CapacityRange),
-        ((1, 4, 1, 0), SettingRange),
-        ((1, 4, 0, 1), SettingRange),
-        ((2, 4, 1, 0), SettingRange),
-        ((2, 4, 0, 1), SettingRange),
-        ((5, 4, 1, 0), SettingRange),
-        ((5, 4, 0, 1), SettingRange),
-        ((3, 4, 0, 0), SettingRange),
-        ((3, 4, 4, 0), SettingRange),
-        ((3, 4, 3, 1), SettingRange),
-        ((4, 4, 0, 1), SettingRange),
-        ((4, 4, 4, 1), SettingRange),
-        ((4, 4, 1, 0), SettingRange),
-        ((4, 4, 1, 5), SettingRange),
-        ((4, 4, NONE, NONE), SettingRange),
-    ];
-    for ((policy, capacity, first, second), refusal) in rows {
+    for ([policy, capacity, first, second], refusal) in REFUSED_SETTINGS {
         let mut words = vec![5; 30];
         tally.equal(
             "form refused",
-            form(policy, capacity, first, second, &mut words),
-            Err(refusal),
+            form(*policy, *capacity, *first, *second, &mut words),
+            Err(*refusal),
         );
         tally.equal("words of a refused form", words, vec![5; 30]);
         tally.equal(
             "length refused",
-            words_for(policy, capacity, first, second),
-            Err(refusal),
+            words_for(*policy, *capacity, *first, *second),
+            Err(*refusal),
         );
     }
     for length in [0, 24, 26] {
@@ -71,11 +75,15 @@ fn forms(tally: &mut Tally) {
         );
         tally.equal("words of a wrong length", words, vec![5; length]);
     }
+}
+
+/// Audit of an empty slice.
+fn audits(tally: &mut Tally) {
     tally.equal("an empty slice", audit(&[]), false);
 }
 
-/// Refusals of request and of the slot alone.
-fn requests(tally: &mut Tally) {
+/// Requests of unsound words, and their slots alone.
+fn unsound_requests(tally: &mut Tally) {
     let mut unsound = formed(1, 2, 0, 0);
     unsound[15] = 1;
     let before = unsound.clone();
@@ -97,6 +105,10 @@ fn requests(tally: &mut Tally) {
         request(&mut [], 1),
         Err(Refusal::Unsound),
     );
+}
+
+/// Requests of what is no page, and the slots alone of pages that are loaded, hit and swapped in.
+fn slots(tally: &mut Tally) {
     let mut words = formed(1, 2, 0, 0);
     let before = words.clone();
     tally.equal(
@@ -138,8 +150,8 @@ fn looks(tally: &mut Tally) {
     );
 }
 
-/// Answers and refusals of report.
-fn reports(tally: &mut Tally) {
+/// Reports of every list of fresh directories, and of lists that the policy has not.
+fn fresh_lists(tally: &mut Tally) {
     let lists_of = [
         (formed(1, 2, 0, 0), 1),
         (formed(2, 2, 0, 0), 1),
@@ -161,6 +173,10 @@ fn reports(tally: &mut Tally) {
             );
         }
     }
+}
+
+/// A report of CLOCK's list, and each refusal of report.
+fn reports(tally: &mut Tally) {
     let mut words = formed(2, 4, 0, 0);
     tally.equal(
         "replay before reports",

@@ -11,6 +11,81 @@ const ROUND_TRIPS: usize = 400;
 /// Changed bytes of each random text.
 const CHANGES: usize = 60;
 
+/// Texts, `/` standing for byte 10, and why they are refused when there is room for three pages.
+const WRONG_TEXTS: &[(&str, Refusal)] = &[
+    ("", line(1)),
+    ("/", line(1)),
+    ("policy=", line(1)),
+    ("policy=/", line(1)),
+    ("policy=1", line(1)),
+    ("Policy=1/", line(1)),
+    (" policy=1/", line(1)),
+    ("policy= 1/", line(1)),
+    ("policy=+1/", line(1)),
+    ("policy=-1/", line(1)),
+    ("policy=01/", line(1)),
+    ("policy=00/", line(1)),
+    ("policy=1 /", line(1)),
+    ("policy=1\r/", line(1)),
+    ("policy=4294967296/", line(1)),
+    ("policy=10000000000/", line(1)),
+    ("policy=99999999999999999999999999/", line(1)),
+    ("policy=1/", line(2)),
+    ("policy=1//", line(2)),
+    ("policy=1/first=2/", line(2)),
+    ("policy=1/capacity=2/first=x/second=0/count=0/", line(3)),
+    ("policy=1/capacity=2/first=0/second=0", line(4)),
+    ("policy=1/capacity=2/first=0/second=0/", line(5)),
+    ("policy=1/capacity=2/first=0/second=0/count=70000", line(5)),
+    (
+        "policy=1/capacity=2/first=0/second=0/count=65536/",
+        Refusal::TooLong,
+    ),
+    (
+        "policy=1/capacity=2/first=0/second=0/count=4294967295/page=x/",
+        Refusal::TooLong,
+    ),
+    (
+        "policy=1/capacity=2/first=0/second=0/count=65535/page=x/",
+        Refusal::BufferTooShort,
+    ),
+    (
+        "policy=1/capacity=2/first=0/second=0/count=4/page=x/",
+        Refusal::BufferTooShort,
+    ),
+    ("policy=1/capacity=2/first=0/second=0/count=3/", line(6)),
+    (
+        "policy=1/capacity=2/first=0/second=0/count=3/page=1/",
+        line(7),
+    ),
+    (
+        "policy=1/capacity=2/first=0/second=0/count=3/page=1/page=2/page=3",
+        line(8),
+    ),
+    (
+        "policy=1/capacity=2/first=0/second=0/count=3/page=1/page=02/page=3/",
+        line(7),
+    ),
+    (
+        "policy=1/capacity=2/first=0/second=0/count=3/page=1/page=2/page=3//",
+        line(9),
+    ),
+    (
+        "policy=1/capacity=2/first=0/second=0/count=3/page=1/page=2/page=3/page=4/",
+        line(9),
+    ),
+    (
+        "policy=1/capacity=2/first=0/second=0/count=0/page=1/",
+        line(6),
+    ),
+    ("policy=1/capacity=2/first=0/second=0/count=0/x", line(6)),
+];
+
+/// The refusal that names a line.
+const fn line(number: u32) -> Refusal {
+    Refusal::WrongLine(number)
+}
+
 /// Runs all text checks.
 pub fn run(tally: &mut Tally, random: &mut Random) -> String {
     wrong_texts(tally);
@@ -31,80 +106,11 @@ fn bytes(text: &str) -> Vec<u8> {
     text.replace('/', "\n").into_bytes()
 }
 
-/// Texts that are refused, with room for three pages.
+/// Reads the texts that are refused, with room for three pages.
 fn wrong_texts(tally: &mut Tally) {
-    let line = Refusal::WrongLine;
-    let rows = [
-        ("", line(1)),
-        ("/", line(1)),
-        ("policy=", line(1)),
-        ("policy=/", line(1)),
-        ("policy=1", line(1)),
-        ("Policy=1/", line(1)),
-        (" policy=1/", line(1)),
-        ("policy= 1/", line(1)),
-        ("policy=+1/", line(1)),
-        ("policy=-1/", line(1)),
-        ("policy=01/", line(1)),
-        ("policy=00/", line(1)),
-        ("policy=1 /", line(1)),
-        ("policy=1\r/", line(1)),
-        ("policy=4294967296/", line(1)),
-        ("policy=10000000000/", line(1)),
-        ("policy=99999999999999999999999999/", line(1)),
-        ("policy=1/", line(2)),
-        ("policy=1//", line(2)),
-        ("policy=1/first=2/", line(2)),
-        ("policy=1/capacity=2/first=x/second=0/count=0/", line(3)),
-        ("policy=1/capacity=2/first=0/second=0", line(4)),
-        ("policy=1/capacity=2/first=0/second=0/", line(5)),
-        ("policy=1/capacity=2/first=0/second=0/count=70000", line(5)),
-        (
-            "policy=1/capacity=2/first=0/second=0/count=65536/",
-            Refusal::TooLong,
-        ),
-        (
-            "policy=1/capacity=2/first=0/second=0/count=4294967295/page=x/",
-            Refusal::TooLong,
-        ),
-        (
-            "policy=1/capacity=2/first=0/second=0/count=65535/page=x/",
-            Refusal::BufferTooShort,
-        ),
-        (
-            "policy=1/capacity=2/first=0/second=0/count=4/page=x/",
-            Refusal::BufferTooShort,
-        ),
-        ("policy=1/capacity=2/first=0/second=0/count=3/", line(6)),
-        (
-            "policy=1/capacity=2/first=0/second=0/count=3/page=1/",
-            line(7),
-        ),
-        (
-            "policy=1/capacity=2/first=0/second=0/count=3/page=1/page=2/page=3",
-            line(8),
-        ),
-        (
-            "policy=1/capacity=2/first=0/second=0/count=3/page=1/page=02/page=3/",
-            line(7),
-        ),
-        (
-            "policy=1/capacity=2/first=0/second=0/count=3/page=1/page=2/page=3//",
-            line(9),
-        ),
-        (
-            "policy=1/capacity=2/first=0/second=0/count=3/page=1/page=2/page=3/page=4/",
-            line(9),
-        ),
-        (
-            "policy=1/capacity=2/first=0/second=0/count=0/page=1/",
-            line(6),
-        ),
-        ("policy=1/capacity=2/first=0/second=0/count=0/x", line(6)),
-    ];
-    for (text, refusal) in rows {
+    for (text, refusal) in WRONG_TEXTS {
         let mut trace = [5; 3];
-        tally.equal(text, read(&bytes(text), &mut trace), Err(refusal));
+        tally.equal(text, read(&bytes(text), &mut trace), Err(*refusal));
         tally.equal("trace of a refused text", trace, [5; 3]);
     }
 }
