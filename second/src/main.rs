@@ -1,4 +1,4 @@
-//! A second program for the page directory: written from the scope document alone, in another style.
+//! The second program for the page directory: its self-test, the vectors for the proof checker, and its replay of a trace text.
 
 mod audit;
 mod calls;

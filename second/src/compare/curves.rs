@@ -1,4 +1,4 @@
-//! The curve: short traces against the model, long ones against depths that are themselves held against the model.
+//! The curve: short traces against the model, long ones against depths and, at some capacities, against the model.
 
 use crate::calls::{form, replay, report, words_for};
 use crate::random::{page_pool, trace_over, Random};

@@ -80,7 +80,7 @@ impl Side for Expected {
         answered(outcome, vec![call.words.to_vec(), result], call.answer)
     }
 
-    /// What C is to see of pd_curve: a long trace goes by depths, which the curves check against the model.
+    /// What C is to see of pd_curve: by the model for a short trace, by depths for a long one.
     fn curve(call: &Curve) -> Seen {
         let (largest, trace) = (call.largest, call.trace);
         let (mut hits, mut list) = (call.result.to_vec(), call.work.to_vec());

@@ -1,4 +1,4 @@
-//! Memory lent to the library, with words before and behind it that it must not touch.
+//! Memory lent to the library, between guards that it must not touch.
 
 /// Items kept on each side of what is lent.
 const GUARD: usize = 8;

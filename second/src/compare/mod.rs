@@ -1,4 +1,4 @@
-//! The comparison of the static library with the model: every call, what it returns and every lent word afterwards.
+//! The comparison of the static library with the model: what every function for C returns, every lent word afterwards, and the memory around.
 
 mod bench;
 mod call;

@@ -1,4 +1,4 @@
-//! Random requests over all policies, each judged by audit, re-encoding, look and a simulated memory.
+//! Random requests over all policies, each judged by audit, re-encoding, look and a simulated memory, and random curves.
 
 use std::collections::HashMap;
 

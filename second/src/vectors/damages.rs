@@ -1,4 +1,4 @@
-//! Sound directories with single words changed, and the first rule that each change breaks.
+//! Sound directories and ones of a wrong length, with single words changed, and the first rule then broken.
 
 use crate::audit::first_broken_rule;
 use crate::codec::encode;
