@@ -17,11 +17,10 @@ use Rattle.meaning.specs.Layout.{four, lengthOf, settingsRefusal}
 use Rattle.meaning.specs.Mem.{Mem, words, decode, fresh}
 use Rattle.meaning.specs.Room.{hit, Reply}
 use Rattle.meaning.specs.Policies.{request}
-use Rattle.meaning.specs.Rules.{sound}
 use Rattle.meaning.specs.Whole.{Whole}
 use Rattle.meaning.specs.Ram.{loadsAs, loads, Right, NeverWrong, Pages}
 use Rattle.meaning.specs.Calls.{Said, refused, gave, Outcome, refuse, refusalOf, formed as form, answered, onPage, requested, heldIn, sight, looked}
-use Rattle.meaning.specs.Answers.{requestSays, lookSays}
+use Rattle.meaning.specs.Answers.{requestSays}
 use Rattle.meaning.proofs.Back.{whole-sound, fresh-whole}
 use Rattle.meaning.proofs.Trip.{decode-words}
 use Rattle.theorems.proofs.Whole.{request-whole}
@@ -29,7 +28,6 @@ use Rattle.theorems.proofs.Held.{look-agrees}
 use Rattle.theorems.proofs.Ram.{never-wrong}
 use Rattle.form_look_report.specs.Forms.{FormedAs}
 use Rattle.form_look_report.specs.Looks.{LookedAs}
-use Rattle.policies.specs.Requests.{Requested}
 use Rattle.policies.specs.History.{Turn, Promised, final, ramBy, ramAfter, RightAnswer, AllRight}
 
 -- The pages of a history.
