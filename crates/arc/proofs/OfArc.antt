@@ -5,10 +5,10 @@ use mathlib.Core.Path.{_≡_, refl, sym, ap, ap₂, _∙_, subst}
 use mathlib.Core.Bool.{Bool, true, false}
 use mathlib.Core.List.{List}
 use mathlib.Core.Logic.{_⊎_, inl, inr, ⊎-elim}
-use native.Mathlib.Nat.{le-div-iff-mul-le, div-le-self}
+use native.Mathlib.Nat.{div-le-self}
 use native.Mathlib.Omega.{arith}
-use lib.Dec.{eqb, leb, ltb}
-use borrow.Author.Tests.{eq-eqb, ne-eqb, lt-ltb, le-ltb, le-leb, lt-leb, leb-true, leb-false, ltb-true, ltb-false}
+use lib.Dec.{eqb, ltb}
+use borrow.Author.Tests.{eq-eqb, ne-eqb, lt-ltb, le-ltb, le-leb, lt-leb, leb-true, ltb-true, ltb-false}
 use Rattle.meaning.specs.declared.Answer.{Answer}
 use Rattle.meaning.specs.declared.Found.{Found}
 use Rattle.meaning.specs.declared.Found.the-variants.{At, Nothing}
@@ -21,12 +21,13 @@ use Rattle.meaning.specs.Arc.{stepOf, mostTarget, grown, shrunk, fromT1, replac
 use Rattle.meaning.specs.Places.{top, cell, list, Repr, Ready, Turns, Says, Any}
 use Rattle.meaning.specs.Proper.{Proper}
 use Rattle.meaning.specs.Kept.{Arc}
-use Rattle.meaning.proofs.Lists.{split, no-true}
+use Rattle.meaning.proofs.Lists.{split}
 use Rattle.meaning.proofs.Numbers.{by-test}
 use Rattle.theorems.specs.Turn.{Turn, Out}
 use Rattle.theorems.proofs.Operations.{free-held}
 use Rattle.theorems.proofs.Rooms.{list-none}
 use Rattle.theorems.proofs.Counts.{held-sizes, list-cases}
+use Rattle.theorems.proofs.Arc.{first-some, first-under, step-some}
 use Rattle.theorems.proofs.Word6.{word6-proper}
 use Rattle.theorems.proofs.Turning.{held1, held2, not3, not4, ghost-turn, out-to, out-off}
 use Rattle.lists.specs.Asked.{OnList}
@@ -34,10 +35,10 @@ use Rattle.lists.specs.Asked as asked
 use Rattle.lists.specs.Told.{Gives, GivesOf, Answers}
 use Rattle.rooms.specs.declared.Freed.{Freed}
 use Rattle.rooms.specs.Rooms.{Serves, Frees, asking, filling, entering, returning, hitFront, backOut, backTo, backGone, Lined, HasBack, Then}
-use Rattle.arc.specs.Steps.{replacing, fromFirst, Replaces, NotEmpty, Ghost, atEntry, ArcMiss, Row, Under, shortened}
+use Rattle.arc.specs.Steps.{replacing, fromFirst, Replaces, NotEmpty, Ghost, ArcMiss, Row, Under, shortened}
 use Rattle.rooms.proofs.Rooming.{frees-as, serves-as, turn-ready, turn-frees, turn-serves}
-use Rattle.rooms.proofs.Backs.{back-of, on-list}
-use Rattle.rooms.proofs.Spaces.{lined, all-four, space-in, space-out, space-as, found-entry, hits, found-nothing}
+use Rattle.rooms.proofs.Backs.{back-of}
+use Rattle.rooms.proofs.Spaces.{lined, out-ghost, all-four, space-in, space-out, space-as, found-entry, hits, found-nothing}
 
 -- ── The target ──
 
@@ -50,12 +51,6 @@ step-one mine other h k = (sym (simp (le-leb other mine h)), omega arith)
 pub step-more : (mine other : ℕ) → mine < other → other ≤ 1024 → (1 * other / mine ≡ stepOf mine other) × (1 * other / mine ≤ 1024)
 unfolding stepOf
 step-more mine other h k = (sym (simp (lt-leb other mine h)), omega (arith, div-le-self (1 * other) mine))
-
-step-some : (mine other : ℕ) → 1 ≤ mine → 1 ≤ stepOf mine other
-unfolding stepOf
-step-some mine other h = by-test (leb other mine)
-    (λ t. simp t (omega arith))
-    (λ t. simp t (le-div-iff-mul-le {k = mine} {x = 1} {y = unit * other} h .1 (omega (arith, leb-false other mine t))))
 
 -- the size that was read is not 0
 pub some-size : {ws : List ℕ} {k n : ℕ} → Says ws (GivesOf size k n) → Ready ws (NotEmpty k) → 1 ≤ n
@@ -121,30 +116,17 @@ module _ {ws : List ℕ} {p t1 : ℕ} (b : Bool) (ep : p ≡ word ws 6) (s : Say
   }
 
 module _ (m : Mem) (b : Bool) where
-  first-some : fromT1 m b ≡ true → 1 ≤ size m 1
-  unfolding fromT1
-  first-some t = by-test (ltb 0 (size m 1)) (λ s. omega (arith, ltb-true 0 (size m 1) s)) (λ s. no-true (sym (simp s) ∙ t))
-
-  first-under : fromT1 m b ≡ false → 1 ≤ size m 1 → size m 1 ≤ m .tops 6
-  unfolding fromT1
-  first-under t h = by-test (ltb (m .tops 6) (unit * size m 1))
-      (λ s. no-true (sym t ∙ simp (lt-ltb 0 (size m 1) (omega arith), s)))
-      (λ s. omega (arith, ltb-false (m .tops 6) (unit * size m 1) s))
-
   -- the back of T1 or of T2 goes out
   module _ (P : Proper m) (other : fromT1 m b ≡ false → 1 ≤ size m 2) where
     replace-cases : (Q : Room → Type 0) → (Out 1 3 m (putOutTo m (back m 1) 3) → Q (putOutTo m (back m 1) 3)) → (Out 2 4 m (putOutTo m (back m 2) 4) → Q (putOutTo m (back m 2) 4)) → Q (replace m b)
     unfolding replace
     replace-cases Q f g = by-test (fromT1 m b)
-        (λ t. simp t (f (out-to m P (back m 1) 1 3 (back-of m P 1 (omega arith) (first-some t)) held1 (omega arith) not3)))
+        (λ t. simp t (f (out-to m P (back m 1) 1 3 (back-of m P 1 (omega arith) (first-some m b t)) held1 (omega arith) not3)))
         (λ t. simp t (g (out-to m P (back m 2) 2 4 (back-of m P 2 (omega arith) (other t)) held2 (omega arith) not4)))
 
     -- a ghost stays on its list
     replace-ghost : (e k : ℕ) → m .lists e ≡ k → (k ≡ 0 → ⊥) → isHeld k ≡ false → OnList e (replace m b .mem)
-    replace-ghost e k l nz g = replace-cases (λ r. OnList e (r .mem)) of of
-      where
-        of : {i j : ℕ} {r : Room} → Out i j m r → OnList e (r .mem)
-        of {r = r} X = on-list (r .mem) (record { indexed = X .vacant .indexed; ordered = X .vacant .ordered }) e (λ y. nz (sym (X .stays e (ap isHeld l ∙ g) .0 ∙ l) ∙ y))
+    replace-ghost e k l nz g = replace-cases (λ r. OnList e (r .mem)) (λ X. out-ghost X e l nz g) (λ X. out-ghost X e l nz g)
 
     -- a new page finds room
     replace-space : all-four m < m .tops 2 → (p : ℕ) → p < NONE → ((i : ℕ) → m .pages i ≡ p → ⊥) → asked.Room p (replace m b .mem)
@@ -246,8 +228,8 @@ module _ {ws ws₁ : List ℕ} {e : ℕ} where
   b1-ready t o = turn-ready t (λ m R g. (some-b1 m e g, comes-b1 m e g)) o
 
   -- so it is served as a page in B1
-  pub b1-serves : {ws₂ : List ℕ} {r : Answer} → Turns ws ws₁ (NotEmpty 3) grown → Serves ws₁ ws₂ (Then (Replaces false) (replacing false) (OnList e)) (filling (replacing false) (returning e 2)) r → Serves ws ws₂ (Ghost 3 e) (atEntry arcB1 e) r
-  unfolding filling replacing returning atEntry arcB1
+  pub b1-serves : {ws₂ : List ℕ} {r : Answer} → Turns ws ws₁ (NotEmpty 3) grown → Serves ws₁ ws₂ (Then (Replaces false) (replacing false) (OnList e)) (filling (replacing false) (returning e 2)) r → Serves ws ws₂ (Ghost 3 e) (asking arcB1 e) r
+  unfolding filling replacing returning asking arcB1
   b1-serves t S = turn-serves t S (λ m R g. (some-b1 m e g, comes-b1 m e g, refl))
 
   -- after p shrank, replace can make room, and the page is still in B2
@@ -255,8 +237,8 @@ module _ {ws ws₁ : List ℕ} {e : ℕ} where
   b2-ready t o = turn-ready t (λ m R g. (some-b2 m e g, comes-b2 m e g)) o
 
   -- so it is served as a page in B2
-  pub b2-serves : {ws₂ : List ℕ} {r : Answer} → Turns ws ws₁ (NotEmpty 4) shrunk → Serves ws₁ ws₂ (Then (Replaces true) (replacing true) (OnList e)) (filling (replacing true) (returning e 2)) r → Serves ws ws₂ (Ghost 4 e) (atEntry arcB2 e) r
-  unfolding filling replacing returning atEntry arcB2
+  pub b2-serves : {ws₂ : List ℕ} {r : Answer} → Turns ws ws₁ (NotEmpty 4) shrunk → Serves ws₁ ws₂ (Then (Replaces true) (replacing true) (OnList e)) (filling (replacing true) (returning e 2)) r → Serves ws ws₂ (Ghost 4 e) (asking arcB2 e) r
+  unfolding filling replacing returning asking arcB2
   b2-serves t S = turn-serves t S (λ m R g. (some-b2 m e g, comes-b2 m e g, refl))
 
 -- ── Room for a new page ──
@@ -486,15 +468,15 @@ module _ {ws : List ℕ} {p : ℕ} {f : Found} (hp : p < NONE) (a : Says ws (Ans
     arc-ghost k d o = record { mem = o .mem; repr = o .repr; meets = record { arc = o .meets; on = on (o .mem) (o .repr) ∙ d } }
 
     -- a page in B1 is served
-    pub arc-b1 : {ws′ : List ℕ} {r : Answer} → j ≡ 3 → Serves ws ws′ (Ghost 3 e) (atEntry arcB1 e) r → Serves ws ws′ Arc (asking arc p) r
-    unfolding asking atEntry arc
+    pub arc-b1 : {ws′ : List ℕ} {r : Answer} → j ≡ 3 → Serves ws ws′ (Ghost 3 e) (asking arcB1 e) r → Serves ws ws′ Arc (asking arc p) r
+    unfolding asking arc
     arc-b1 d S = serves-as S (λ m R L.
         let k = hits a z hp m R (lined (L .proper)) in let l = k .list ∙ on m R ∙ d in
         (record { arc = L; on = on m R ∙ d }, simp (k .entry, ap isHeld l ∙ not3, eq-eqb (listOn m p) 3 l)))
 
     -- a page in B2 is served
-    pub arc-b2 : {ws′ : List ℕ} {r : Answer} → j ≡ 4 → Serves ws ws′ (Ghost 4 e) (atEntry arcB2 e) r → Serves ws ws′ Arc (asking arc p) r
-    unfolding asking atEntry arc
+    pub arc-b2 : {ws′ : List ℕ} {r : Answer} → j ≡ 4 → Serves ws ws′ (Ghost 4 e) (asking arcB2 e) r → Serves ws ws′ Arc (asking arc p) r
+    unfolding asking arc
     arc-b2 d S = serves-as S (λ m R L.
         let k = hits a z hp m R (lined (L .proper)) in let l = k .list ∙ on m R ∙ d in
         (record { arc = L; on = on m R ∙ d }, simp (k .entry, ap isHeld l ∙ not4, ne-eqb (listOn m p) 3 (λ y. omega (arith, y, l)), eq-eqb (listOn m p) 4 l)))

@@ -6,7 +6,7 @@ use mathlib.Core.Bool.{Bool, false}
 use lib.Dec.{eqb}
 use Rattle.meaning.specs.Base.{if_then_else_}
 use Rattle.meaning.specs.Mem.{Mem, size, back, clear}
-use Rattle.meaning.specs.Room.{Done, Room}
+use Rattle.meaning.specs.Room.{Room}
 use Rattle.meaning.specs.Arc.{fromT1, replace}
 use Rattle.meaning.specs.Kept.{Arc}
 use Rattle.rooms.specs.Rooms.{Lined}
@@ -33,10 +33,6 @@ pub record NotEmpty (k : ℕ) (m : Mem) : Type 0 where
 pub record Ghost (k e : ℕ) (m : Mem) : Type 0 where
   pub arc : Arc m
   pub on : m .lists e ≡ k
-
--- A step for the page of entry e.
-unfoldable pub atEntry : (Mem → ℕ → Done) → ℕ → Mem → Done
-atEntry step e m = step m e
 
 -- An ARC directory without the page p.
 pub record ArcMiss (p : ℕ) (m : Mem) : Type 0 where

@@ -7,7 +7,7 @@ ghost use Rattle.meaning.specs.Kept.{Arc};
 ghost use Rattle.lists.specs.Asked.{OnList, Room};
 ghost use Rattle.lists.specs.Told.{Gives};
 ghost use Rattle.rooms.specs.Rooms.{Serves, Frees, asking, filling, entering, returning, Then};
-ghost use Rattle.arc.specs.Steps.{replacing, fromFirst, Replaces, NotEmpty, Ghost, atEntry, ArcMiss, Row, Under, shortened};
+ghost use Rattle.arc.specs.Steps.{replacing, fromFirst, Replaces, NotEmpty, Ghost, ArcMiss, Row, Under, shortened};
 use meaning::Answer;
 use meaning::Found;
 use rooms::Freed;
@@ -123,7 +123,7 @@ fn return_t2(words: &mut [u32], e: u32, in_b2: bool) -> Answer
 // In B1: p grows. Replace; then to the front of T2.
 fn arc_b1(words: &mut [u32], e: u32) -> Answer
     requires { ⌜ Ready (now words) (Ghost 3 e) ⌝ }
-    ensures { λ r. ⌜ Serves (now (words .entry)) (now (words .exit)) (Ghost 3 e) (atEntry arcB1 e) r ⌝ }
+    ensures { λ r. ⌜ Serves (now (words .entry)) (now (words .exit)) (Ghost 3 e) (asking arcB1 e) r ⌝ }
 {
     grow(words);
     return_t2(words, e, false)
@@ -132,7 +132,7 @@ fn arc_b1(words: &mut [u32], e: u32) -> Answer
 // In B2: p shrinks. Replace; then to the front of T2.
 fn arc_b2(words: &mut [u32], e: u32) -> Answer
     requires { ⌜ Ready (now words) (Ghost 4 e) ⌝ }
-    ensures { λ r. ⌜ Serves (now (words .entry)) (now (words .exit)) (Ghost 4 e) (atEntry arcB2 e) r ⌝ }
+    ensures { λ r. ⌜ Serves (now (words .entry)) (now (words .exit)) (Ghost 4 e) (asking arcB2 e) r ⌝ }
 {
     shrink(words);
     return_t2(words, e, true)

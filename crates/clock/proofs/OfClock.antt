@@ -23,11 +23,12 @@ use Rattle.meaning.specs.Calls.{gave}
 use Rattle.meaning.specs.Answers.{requestSays}
 use Rattle.meaning.specs.Places.{top, cell, mark, Repr, Ready, Turns, Says, Any}
 use Rattle.meaning.specs.Kept.{Clock}
+use Rattle.meaning.proofs.Numbered.{held-used}
 use Rattle.meaning.proofs.Lists.{split, eqb-same}
 use Rattle.meaning.proofs.Numbers.{by-test}
-use Rattle.theorems.proofs.Operations.{held-is, paged, clear-moved, clear-bare, clear-quiet, clear-idle, lowest-free}
+use Rattle.theorems.proofs.Operations.{paged, clear-moved, clear-bare, clear-quiet, clear-idle, lowest-free}
 use Rattle.theorems.proofs.Rooms.{list-is, list-none}
-use Rattle.theorems.proofs.Counts.{tally-full}
+use Rattle.meaning.proofs.Counted.{tally-full}
 use Rattle.theorems.proofs.Word6.{word6-seated, mark-seated}
 use Rattle.theorems.proofs.Turning.{held1}
 use Rattle.lists.specs.Asked.{Within, Kept}
@@ -225,7 +226,7 @@ unfolding handOut putOut held
 hand-space m K h p hp absent =
     let e = m .tops 6 in let I = K .seated .indexed in
     let l : e < m .tops 2 = omega (arith, K .hand, K .all) in
-    let u : m .lists e ≡ 0 → ⊥ = held-is (m .lists e) (tally-full (m .tops 2) (λ y. isHeld (m .lists y)) (omega (arith, K .all)) e l) in
+    let u : m .lists e ≡ 0 → ⊥ = held-used (m .lists e) (tally-full (m .tops 2) (λ y. isHeld (m .lists y)) (omega (arith, K .all)) e l) in
     let one = K .one e u in let M = clear-moved m I e u in let q = clear-quiet m I e u .tops in
     let k = lowest-free (clear e m) e (omega (arith, M .size)) (M .lists e ∙ simp (eqb-same e)) in
     record {

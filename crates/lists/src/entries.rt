@@ -22,7 +22,7 @@ use crate::links::unlink;
 use meaning::Found;
 
 // The lowest free entry, or the number of entries.
-pub fn lowest_free(words: &[u32]) -> u32
+pub(crate) fn lowest_free(words: &[u32]) -> u32
     requires { ⌜ Ready (now words) Any ⌝ }
     ensures { λ r. ⌜ Says (now (words .entry)) (Gives lowest r) ⌝ }
 {

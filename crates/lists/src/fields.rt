@@ -43,7 +43,7 @@ pub(crate) fn put_cell(words: &mut [u32], i: u32, f: usize, v: u32)
 }
 
 // Gives entry e the slot s.
-pub fn set_slot(words: &mut [u32], e: u32, s: u32)
+pub(crate) fn set_slot(words: &mut [u32], e: u32, s: u32)
     requires { ⌜ Ready (now words) (Within e) ⌝ }
     ensures { λ r. ⌜ Turns (now (words .entry)) (now (words .exit)) (Within e) (withSlot e s) ⌝ }
 {

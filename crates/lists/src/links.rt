@@ -47,7 +47,7 @@ fn put_links(words: &mut [u32], e: u32, j: u32, p: u32, n: u32)
 }
 
 // Takes entry e off its list.
-pub fn unlink(words: &mut [u32], e: u32)
+pub(crate) fn unlink(words: &mut [u32], e: u32)
     requires { ⌜ Ready (now words) (OnList e) ⌝ }
     ensures { λ r. ⌜ Turns (now (words .entry)) (now (words .exit)) (OnList e) (off e) ⌝ }
 {

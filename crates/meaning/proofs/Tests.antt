@@ -19,6 +19,11 @@ fails b h = sym (not-so b h)
 pub clash : {b : Bool} → b ≡ true → b ≡ false → ⊥
 clash h k = no-true (sym k ∙ h)
 
+-- Whichever a test chooses: it holds of that if it holds of both.
+pub either : {A : Type 0} (P : A → Type 0) (b : Bool) {x y : A} → P x → P y → P (if b then x else y)
+either P true h k = h
+either P false h k = k
+
 -- ── two tests, of which both must pass ──
 
 -- Both pass: the first does.

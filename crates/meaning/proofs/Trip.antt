@@ -14,6 +14,7 @@ use Rattle.meaning.specs.Base.{walk}
 use Rattle.meaning.specs.Neighbours.{NONE, has, after, before}
 use Rattle.meaning.specs.Mem.{Mem, entryWords, entriesFrom, bucketsFrom, headTail, words, field, topOf, listOf, chainOf, decode}
 use Rattle.meaning.specs.Places.{page, list, slot, prev, next, chain, mark, spare, Place, top, head, tail, bucket, end, cell, Valid, addr, Holds, image, Fine, Repr}
+use Rattle.meaning.specs.Proper.{Indexed}
 use Rattle.meaning.specs.Shape.{Canonical, Shaped}
 use Rattle.meaning.proofs.Lists.{eqb-same}
 use Rattle.meaning.proofs.Chained.{bucket-lt}
@@ -197,6 +198,10 @@ words-repr m F = record { holds = words-hold m; fine = F }
 -- a directory comes back from its words
 pub decode-words : (m : Mem) → Shaped m → decode (words m) ≡ m
 decode-words m s = decode-repr (words m) m (words-repr m (s .fine)) (s .canonical)
+
+-- so does one whose page index is right
+pub decode-indexed : (m : Mem) → Indexed m → decode (words m) ≡ m
+decode-indexed m I = decode-words m (record { fine = I .fine; canonical = I .canonical })
 
 -- the words that stand for a directory are its words
 pub repr-words : (ws : List ℕ) (m : Mem) → Repr ws m → words m ≡ ws

@@ -4,8 +4,9 @@ use mathlib.Core.Bool.{cond}
 use mathlib.Core.List.{List, [], _∷_, _++_}
 use lib.ListN.{length}
 use lib.Dec.{ltb, eqb}
+use Rattle.meaning.specs.Base.{if_then_else_}
 use Rattle.meaning.specs.Layout.{longest}
-use Rattle.meaning.specs.Calls.{openCalls, refused, gave, Outcome, over}
+use Rattle.meaning.specs.Calls.{openCalls, gave, Outcome, refuse, over}
 
 -- ── The text of settings and a trace ──
 
@@ -152,9 +153,9 @@ readLeft (accepted p c f g ps) trace = over ps trace
 unfoldable pub wrote : ℕ → ℕ → ℕ → ℕ → List ℕ → List ℕ → Outcome ℕ
 wrote policy capacity first second trace buffer =
     let text = textOf policy capacity first second trace in
-    let no : ℕ → Outcome ℕ = λ n. record { said = refused n; left = buffer } in
-    cond (ltb longest (length trace)) (no 7)
-    (cond (ltb (length buffer) (length text)) (no 8) (record { said = gave (length text); left = over text buffer }))
+    if ltb longest (length trace) then refuse 7 buffer else
+    if ltb (length buffer) (length text) then refuse 8 buffer else
+    record { said = gave (length text); left = over text buffer }
 
 -- For a proof that computes: `unfolding openText` opens every definition of this file and of the files below it.
 unfoldable pub openText : Unit {0}

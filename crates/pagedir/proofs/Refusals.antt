@@ -2,7 +2,7 @@
 -- Assumes nothing.
 use Prim.Native.Nat.{ℕ}
 use mathlib.Core.Path.{_≡_, refl, sym, ap, _∙_}
-use mathlib.Core.Bool.{Bool, true, false, cond, not}
+use mathlib.Core.Bool.{Bool, not}
 use mathlib.Core.List.{List}
 use native.Mathlib.Omega.{arith}
 use lib.Dec.{eqb, ltb}
@@ -23,6 +23,8 @@ use Rattle.meaning.specs.Room.{Reply}
 use Rattle.meaning.specs.Rules.{sound}
 use Rattle.meaning.specs.Calls.{Said, refused, gave, Outcome, refuse, refusalOf, formed as form, answered, onPage, requested, slotOf, slotFor, pagesOn, reported, ran, replayed, CurveOutcome, curveRefusal, curved}
 use Rattle.meaning.specs.Text.{Reading, unread, accepted, readText, readRefused, readSaid, readLeft, textOf, wrote}
+use Rattle.meaning.proofs.Injective.{not-given}
+use Rattle.meaning.proofs.Tests.{either}
 use Rattle.form_look_report.specs.Forms.{FormedAs}
 use Rattle.form_look_report.specs.Reports.{ReportedAs}
 use Rattle.policies.specs.Requests.{Requested, SlotGiven}
@@ -37,10 +39,6 @@ use Rattle.pagedir.specs.Promises.{number, answers, Told, ToldAnd, Left,
 record Still {A : Type 0} (o : Outcome A) (ws : List ℕ) : Type 0 where
   stays : (n : ℕ) → refused n ≡ o .said → o .left ≡ ws
 
--- a refusal gives nothing
-never : {A : Type 0} {a : A} {n : ℕ} → refused n ≡ gave a → ⊥
-never e = let z : _≡_ {A = ℕ} 0 1 = cc in omega arith
-
 module _ {A : Type 0} where
   -- a refusal
   denies : (k : ℕ) (ws : List ℕ) → Still {A = A} (refuse k ws) ws
@@ -49,40 +47,35 @@ module _ {A : Type 0} where
 
   -- no refusal
   gives : (a : A) (l ws : List ℕ) → Still (record { said = gave a; left = l }) ws
-  gives a l ws = record { stays = λ n e. absurd (never e) }
+  gives a l ws = record { stays = λ n e. absurd (not-given e) }
 
   -- one or the other
-  either : (b : Bool) {x y : Outcome A} {ws : List ℕ} → Still x ws → Still y ws → Still (if b then x else y) ws
-  either true h k = h
-  either false h k = k
-
-  or-else : (b : Bool) {x y : Outcome A} {ws : List ℕ} → Still x ws → Still y ws → Still (cond b x y) ws
-  or-else true h k = h
-  or-else false h k = k
+  or : {ws : List ℕ} (b : Bool) {x y : Outcome A} → Still x ws → Still y ws → Still (if b then x else y) ws
+  or {ws} = either (λ (o : Outcome A). Still o ws)
 
 -- ── The calls in Rattle ──
 
 still-formed : (S : Settings) (ws : List ℕ) → Still (form S ws) ws
 unfolding form
-still-formed S ws = either (not (eqb (refusalOf S) 0)) (denies (refusalOf S) ws) (either (not (eqb (length ws) (lengthOf S))) (denies 4 ws) (gives tt _ ws))
+still-formed S ws = or (not (eqb (refusalOf S) 0)) (denies (refusalOf S) ws) (or (not (eqb (length ws) (lengthOf S))) (denies 4 ws) (gives tt _ ws))
 
 still-requested : (ws : List ℕ) (p : ℕ) → Still (requested ws p) ws
 unfolding requested onPage answered
-still-requested ws p = either (not (sound ws)) (denies 5 ws) (either (eqb p NONE) (denies 6 ws) (gives _ _ ws))
+still-requested ws p = or (not (sound ws)) (denies 5 ws) (or (eqb p NONE) (denies 6 ws) (gives _ _ ws))
 
 still-reported : (ws : List ℕ) (j : ℕ) (b : List ℕ) → Still (reported ws j b) b
 unfolding reported
 still-reported ws j b =
     let m = decode ws in
-    either (not (sound ws)) (denies 5 b) (either (not (isList (m .tops 0) j)) (denies 9 b) (either (ltb (length b) (length (pagesOn m j))) (denies 8 b) (gives _ _ b)))
+    or (not (sound ws)) (denies 5 b) (or (not (isList (m .tops 0) j)) (denies 9 b) (or (ltb (length b) (length (pagesOn m j))) (denies 8 b) (gives _ _ b)))
 
 still-replayed : (ws t : List ℕ) → Still (replayed ws t) ws
 unfolding replayed ran
-still-replayed ws t = either (not (sound ws)) (denies 5 ws) (either (ltb longest (length t)) (denies 7 ws) (either (has t NONE) (denies 6 ws) (gives _ _ ws)))
+still-replayed ws t = or (not (sound ws)) (denies 5 ws) (or (ltb longest (length t)) (denies 7 ws) (or (has t NONE) (denies 6 ws) (gives _ _ ws)))
 
 still-wrote : (p c f g : ℕ) (t b : List ℕ) → Still (wrote p c f g t b) b
-unfolding wrote refuse
-still-wrote p c f g t b = or-else (ltb longest (length t)) (denies 7 b) (or-else (ltb (length b) (length (textOf p c f g t))) (denies 8 b) (gives _ _ b))
+unfolding wrote
+still-wrote p c f g t b = or (ltb longest (length t)) (denies 7 b) (or (ltb (length b) (length (textOf p c f g t))) (denies 8 b) (gives _ _ b))
 
 -- the two buffers of `curve`
 record Quiet (o : CurveOutcome) (r w : List ℕ) : Type 0 where
@@ -90,11 +83,8 @@ record Quiet (o : CurveOutcome) (r w : List ℕ) : Type 0 where
 
 quiet-curved : (m : ℕ) (t r w : List ℕ) → Quiet (curved m t r w) r w
 unfolding curved
-quiet-curved m t r w = one-of (not (eqb (curveRefusal m t (length r) (length w)) 0)) (record { stays = λ n e. (refl, refl) }) (record { stays = λ n e. absurd (never e) })
-  where
-    one-of : (b : Bool) {x y : CurveOutcome} → Quiet x r w → Quiet y r w → Quiet (if b then x else y) r w
-    one-of true h k = h
-    one-of false h k = k
+quiet-curved m t r w =
+    either (λ (o : CurveOutcome). Quiet o r w) (not (eqb (curveRefusal m t (length r) (length w)) 0)) (record { stays = λ n e. (refl, refl) }) (record { stays = λ n e. absurd (not-given e) })
 
 pub form-refused : {p c f s n : ℕ} {ws ws′ : List ℕ} → FormedAs p c f s ws (formed.Refused n) ws′ → ws′ ≡ ws
 form-refused {p} {c} {f} {s} {n} {ws} x = x .memory ∙ still-formed (four p c f s) ws .stays n (x .answer)
@@ -108,7 +98,7 @@ slot-refused {ws} {p = p} {n = n} x = x .memory ∙ still-requested ws p .stays 
   where
     from : (a : Said Reply) → refused n ≡ slotOf a → refused n ≡ a
     from (refused k) e = let q : n ≡ k = cc e in ap refused q
-    from (gave r) e = absurd (never e)
+    from (gave r) e = absurd (not-given e)
 
 pub report-refused : {ws b b′ : List ℕ} {j n : ℕ} → ReportedAs ws j b (report.Refused n) b′ → b′ ≡ b
 report-refused {ws} {b} {j = j} {n = n} x = x .memory ∙ still-reported ws j b .stays n (x .answer)

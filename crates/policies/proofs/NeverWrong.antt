@@ -8,26 +8,26 @@ use native.Mathlib.Omega.{arith}
 use lib.Dec.{eqb}
 use lib.ListN.{length}
 use borrow.Author.Tests.{ne-eqb, eqb-true}
-use Rattle.meaning.specs.declared.Answer.{Answer}
-use Rattle.meaning.specs.declared.Answer.the-variants.{Hit, Loaded, Swapped, Refused}
 use Rattle.meaning.specs.declared.Formed.the-variants as formed
 use Rattle.meaning.specs.declared.Looked.the-variants as look
 use Rattle.meaning.specs.Neighbours.{NONE}
 use Rattle.meaning.specs.Layout.{four, lengthOf, settingsRefusal}
-use Rattle.meaning.specs.Mem.{Mem, words, decode, fresh}
-use Rattle.meaning.specs.Room.{hit, Reply}
+use Rattle.meaning.specs.Mem.{Mem, words, fresh}
+use Rattle.meaning.specs.Room.{Reply}
 use Rattle.meaning.specs.Policies.{request}
 use Rattle.meaning.specs.Whole.{Whole}
-use Rattle.meaning.specs.Ram.{loadsAs, loads, Right, NeverWrong, Pages}
-use Rattle.meaning.specs.Calls.{Said, refused, gave, Outcome, refuse, refusalOf, formed as form, answered, onPage, requested, heldIn, sight, looked}
+use Rattle.meaning.specs.Ram.{loads, Right, NeverWrong, Pages}
+use Rattle.meaning.specs.Calls.{Said, gave, Outcome, refuse, refusalOf, formed as form, answered, onPage, requested, heldIn, sight, looked}
 use Rattle.meaning.specs.Answers.{requestSays}
 use Rattle.meaning.proofs.Back.{whole-sound, fresh-whole}
-use Rattle.meaning.proofs.Trip.{decode-words}
+use Rattle.meaning.proofs.Injective.{not-given}
+use Rattle.meaning.proofs.Trip.{decode-indexed}
 use Rattle.theorems.proofs.Whole.{request-whole}
 use Rattle.theorems.proofs.Held.{look-agrees}
 use Rattle.theorems.proofs.Ram.{never-wrong}
 use Rattle.form_look_report.specs.Forms.{FormedAs}
 use Rattle.form_look_report.specs.Looks.{LookedAs}
+use Rattle.policies.proofs.Requesting.{request-is}
 use Rattle.policies.specs.History.{Turn, Promised, final, ramBy, ramAfter, RightAnswer, AllRight}
 
 -- The pages of a history.
@@ -39,38 +39,10 @@ unfolding Promised Pages asked
 allowed ws [] h = tt
 allowed ws (t ∷ ts) h = (h .0, allowed (t .left) ts (h .2))
 
--- ── One request on the words of a whole directory ──
-
--- a whole directory comes back from its words
-back : (m : Mem) → Whole m → decode (words m) ≡ m
-back m W = decode-words m (record { fine = W .stocked .indexed .fine; canonical = W .stocked .indexed .canonical })
-
 -- the request is what its definition makes of the directory
 served : (m : Mem) (p : ℕ) → Whole m → p < NONE → requested (words m) p ≡ record { said = gave (request m p .reply); left = words (request m p .mem) }
-unfolding requested onPage answered
-served m p W h = simp (whole-sound m W, ne-eqb p NONE (λ z. omega (arith, z)), back m W)
-
--- what a reply was, where one was given
-given : Said Reply → Reply
-given (refused n) = record { kind = hit; slot = 0; out = 0; cleared = 0 }
-given (gave r) = r
-
-module _ (p : ℕ) (ram : ℕ → ℕ) (R : Reply) where
-  -- the answer is right if the reply is
-  right-by : (r : Answer) → requestSays r ≡ gave R → (R .kind ≡ hit → ram (R .slot) ≡ p) → RightAnswer r p ram
-  unfolding RightAnswer given
-  right-by (Hit s c) e h = subst (λ (x : Reply). x .kind ≡ hit → ram (x .slot) ≡ p) (sym (ap given e)) h refl
-  right-by (Loaded s c) e h = tt
-  right-by (Swapped s o c) e h = tt
-  right-by (Refused n) e h = let z : _≡_ {A = ℕ} 0 1 = cc in absurd (omega arith)
-
-  -- RAM is loaded alike
-  ram-by : (r : Answer) → requestSays r ≡ gave R → loads R p ram ≡ ramBy r p ram
-  unfolding ramBy given loads loadsAs
-  ram-by (Hit s c) e = sym (ap (λ (x : Said Reply). loads (given x) p ram) e)
-  ram-by (Loaded s c) e = sym (ap (λ (x : Said Reply). loads (given x) p ram) e)
-  ram-by (Swapped s o c) e = sym (ap (λ (x : Said Reply). loads (given x) p ram) e)
-  ram-by (Refused n) e = let z : _≡_ {A = ℕ} 0 1 = cc in absurd (omega arith)
+unfolding answered
+served m p W h = request-is (words m) p (whole-sound m W) h ∙ simp (decode-indexed m (W .stocked .indexed))
 
 -- ── A history ──
 
@@ -83,7 +55,7 @@ record End (ram : ℕ → ℕ) (ws : List ℕ) : Type 0 where
 
 -- Every answer is right, and so is RAM at the end.
 goes : (ts : List Turn) (m : Mem) (ws : List ℕ) (ram : ℕ → ℕ) → Whole m → ws ≡ words m → NeverWrong request ram m (asked ts) → Promised ws ts → AllRight ram ts × End (ramAfter ram ts) (final ws ts)
-unfolding NeverWrong Promised AllRight asked ramAfter final
+unfolding NeverWrong Promised AllRight RightAnswer asked ramAfter ramBy final
 goes [] m ws ram W e N h = (tt, record { mem = m; whole = W; is = e; right = N })
 goes (t ∷ ts) m ws ram W e N h =
     let p = t .page in
@@ -91,9 +63,8 @@ goes (t ∷ ts) m ws ram W e N h =
     let o = ap (λ (v : List ℕ). requested v p) e ∙ served m p W (h .0) in
     let says : requestSays (t .answer) ≡ gave (d .reply) = h .1 .answer ∙ ap (λ (x : Outcome Reply). x .said) o in
     let left : t .left ≡ words (d .mem) = h .1 .memory ∙ ap (λ (x : Outcome Reply). x .left) o in
-    let next = subst (λ (r : ℕ → ℕ). NeverWrong request r (d .mem) (asked ts)) (ram-by p ram (d .reply) (t .answer) says) (N .2) in
-    let rest = goes ts (d .mem) (t .left) (ramBy (t .answer) p ram) (request-whole m p W (h .0)) left next (h .2) in
-    ((right-by p ram (d .reply) (t .answer) says (N .1), rest .0), rest .1)
+    let rest = goes ts (d .mem) (t .left) (loads (d .reply) p ram) (request-whole m p W (h .0)) left (N .2) (h .2) in
+    subst (λ (a : Said Reply). (RightAnswer a p ram × AllRight (ramBy a p ram) ts) × End (ramAfter (ramBy a p ram) ts) (final (t .left) ts)) (sym says) ((N .1, rest .0), rest .1)
 
 -- ── From form on ──
 
@@ -102,12 +73,9 @@ fresh-is : {p c f s : ℕ} {before ws : List ℕ} → FormedAs p c f s before fo
 unfolding form refuse refusalOf
 fresh-is {p} {c} {f} {s} {before} {ws} x = go (eqb (settingsRefusal p c f s) 0) refl (eqb (length before) (lengthOf (four p c f s))) refl
   where
-    no : {n : ℕ} → _≡_ {A = Said (Unit {0})} (gave tt) (refused n) → ⊥
-    no e = let z : _≡_ {A = ℕ} 0 1 = cc in omega arith
-
     go : (a : Bool) → eqb (settingsRefusal p c f s) 0 ≡ a → (b : Bool) → eqb (length before) (lengthOf (four p c f s)) ≡ b → (settingsRefusal p c f s ≡ 0) × (ws ≡ words (fresh (four p c f s)))
-    go false h b k = absurd (no {n = settingsRefusal p c f s} (x .answer ∙ simp h))
-    go true h false k = absurd (no {n = 4} (x .answer ∙ simp (h, k)))
+    go false h b k = absurd (not-given {n = settingsRefusal p c f s} (sym (x .answer ∙ simp h)))
+    go true h false k = absurd (not-given {n = 4} (sym (x .answer ∙ simp (h, k))))
     go true h true k = (eqb-true _ 0 h, x .memory ∙ simp (h, k))
 
 module _ {p c f s : ℕ} {before ws : List ℕ} (x : FormedAs p c f s before formed.Done ws) (ts : List Turn) (h : Promised ws ts) (ram : ℕ → ℕ) where
@@ -127,5 +95,5 @@ module _ {p c f s : ℕ} {before ws : List ℕ} (x : FormedAs p c f s before for
   looks-never-wrong {q} {n} hq y =
       let E = all .1 in
       let m = E .mem in
-      let seen : gave (heldIn n) ≡ gave (sight m q) = y .answer ∙ ap (λ (v : List ℕ). looked v q) (E .is) ∙ simp (whole-sound m (E .whole), ne-eqb q NONE (λ z. omega (arith, z)), back m (E .whole)) in
+      let seen : gave (heldIn n) ≡ gave (sight m q) = y .answer ∙ ap (λ (v : List ℕ). looked v q) (E .is) ∙ simp (whole-sound m (E .whole), ne-eqb q NONE (λ z. omega (arith, z)), decode-indexed m (E .whole .stocked .indexed)) in
       E .right q n (look-agrees m (E .whole) q n hq .0 (cc seen))

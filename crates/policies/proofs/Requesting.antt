@@ -169,6 +169,11 @@ module _ (ws : List ℕ) {b : Bool} (a : b ≡ audited ws) where
   unfolding requested onPage
   a-page {p} z y S = let t = is-sound ws a z in let u = ne-eqb p NONE y in record { answer = S .said ∙ sym (simp (t, u)); memory = S .left ∙ sym (simp (t, u)) }
 
+-- On sound words and a page, the public request is the request.
+pub request-is : (ws : List ℕ) (p : ℕ) → sound ws ≡ true → p < NONE → requested ws p ≡ answered ws p
+unfolding requested onPage
+request-is ws p s hp = simp (s, ne-eqb p NONE (λ z. omega (arith, z)))
+
 -- ── The slot ──
 
 none : (x a b c : ℕ) → (x ≡ a → ⊥) → (x ≡ b → ⊥) → (x ≡ c → ⊥) → OneOf (a ∷ b ∷ c ∷ []) x → ⊥

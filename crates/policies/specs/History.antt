@@ -3,8 +3,11 @@ use Prim.Native.Nat.{ℕ, _<_}
 use mathlib.Core.Path.{_≡_}
 use mathlib.Core.List.{List, [], _∷_}
 use Rattle.meaning.specs.declared.Answer.{Answer}
-use Rattle.meaning.specs.declared.Answer.the-variants.{Hit, Loaded, Swapped, Refused}
-use Rattle.meaning.specs.Neighbours.{NONE, put}
+use Rattle.meaning.specs.Neighbours.{NONE}
+use Rattle.meaning.specs.Room.{hit, Reply}
+use Rattle.meaning.specs.Ram.{loads}
+use Rattle.meaning.specs.Calls.{Said, refused, gave}
+use Rattle.meaning.specs.Answers.{requestSays}
 use Rattle.policies.specs.Requests.{Requested}
 
 -- One request: the page asked for, the answer, and the words afterwards.
@@ -23,26 +26,22 @@ unfoldable pub final : List ℕ → List Turn → List ℕ
 final ws [] = ws
 final ws (t ∷ ts) = final (t .left) ts
 
--- RAM after an answer: a page that was loaded is put into the slot that the answer names.
-unfoldable pub ramBy : Answer → ℕ → (ℕ → ℕ) → ℕ → ℕ
-ramBy (Hit s c) page ram = ram
-ramBy (Loaded s c) page ram = put ram s page
-ramBy (Swapped s o c) page ram = put ram s page
-ramBy (Refused n) page ram = ram
+-- RAM after what an answer says: a refusal loads nothing.
+unfoldable pub ramBy : Said Reply → ℕ → (ℕ → ℕ) → ℕ → ℕ
+ramBy (refused n) page ram = ram
+ramBy (gave r) page ram = loads r page ram
 
 -- RAM at the end.
 unfoldable pub ramAfter : (ℕ → ℕ) → List Turn → ℕ → ℕ
 ramAfter ram [] = ram
-ramAfter ram (t ∷ ts) = ramAfter (ramBy (t .answer) (t .page) ram) ts
+ramAfter ram (t ∷ ts) = ramAfter (ramBy (requestSays (t .answer)) (t .page) ram) ts
 
 -- An answer is right: a hit names a slot that holds that very page, and no request is refused.
-unfoldable pub RightAnswer : Answer → ℕ → (ℕ → ℕ) → Type 0
-RightAnswer (Hit s c) page ram = ram s ≡ page
-RightAnswer (Loaded s c) page ram = Unit {0}
-RightAnswer (Swapped s o c) page ram = Unit {0}
-RightAnswer (Refused n) page ram = ⊥
+unfoldable pub RightAnswer : Said Reply → ℕ → (ℕ → ℕ) → Type 0
+RightAnswer (refused n) page ram = ⊥
+RightAnswer (gave r) page ram = r .kind ≡ hit → ram (r .slot) ≡ page
 
 -- Every answer of the history is right.
 unfoldable pub AllRight : (ℕ → ℕ) → List Turn → Type 0
 AllRight ram [] = Unit {0}
-AllRight ram (t ∷ ts) = RightAnswer (t .answer) (t .page) ram × AllRight (ramBy (t .answer) (t .page) ram) ts
+AllRight ram (t ∷ ts) = RightAnswer (requestSays (t .answer)) (t .page) ram × AllRight (ramBy (requestSays (t .answer)) (t .page) ram) ts

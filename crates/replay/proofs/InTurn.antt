@@ -6,28 +6,23 @@ use mathlib.Core.Bool.{true}
 use mathlib.Core.List.{List, [], _∷_}
 use native.Mathlib.Omega.{arith}
 use lib.ListN.{length}
-use borrow.Author.Tests.{ne-eqb}
 use Rattle.meaning.specs.Neighbours.{NONE}
 use Rattle.meaning.specs.Mem.{words, decode}
 use Rattle.meaning.specs.Room.{Kind, hit, loaded, swapped, Reply}
 use Rattle.meaning.specs.Policies.{request}
 use Rattle.meaning.specs.Rules.{sound}
-use Rattle.meaning.specs.Calls.{Outcome, Counts, none, counted, answered, onPage, requested, run}
+use Rattle.meaning.specs.Calls.{Outcome, Counts, none, counted, answered, run}
 use Rattle.meaning.specs.Ram.{Pages}
 use Rattle.meaning.proofs.Back.{whole-sound}
 use Rattle.sound.proofs.Door.{door}
 use Rattle.theorems.proofs.Whole.{request-whole}
+use Rattle.policies.proofs.Requesting.{request-is}
 use Rattle.replay.specs.Turns.{countedBy, asked, sum}
 
 -- A request leaves sound words sound.
 pub still-sound : (ws : List ℕ) (p : ℕ) → sound ws ≡ true → p < NONE → sound (answered ws p .left) ≡ true
 unfolding answered
 still-sound ws p s hp = whole-sound (request (decode ws) p .mem) (request-whole (decode ws) p (door ws s .1) hp)
-
--- On sound words and a page, the public request is the request.
-request-is : (ws : List ℕ) (p : ℕ) → sound ws ≡ true → p < NONE → requested ws p ≡ answered ws p
-unfolding requested onPage
-request-is ws p s hp = simp (s, ne-eqb p NONE (λ z. omega (arith, z)))
 
 -- Replay is the public request, in turn.
 pub in-turn : (t : List ℕ) (c : Counts) (ws : List ℕ) → sound ws ≡ true → Pages t → run c ws t ≡ asked c ws t

@@ -23,7 +23,7 @@ use Rattle.meaning.specs.Ram.{Pages}
 use Rattle.meaning.specs.Calls.{pagesOn, Counts, none, counted, Ran, run, lruRun, lruHits, lruPages}
 use Rattle.meaning.proofs.Lists.{split, eqb-same, no-true, remove-absent, has-remove}
 use Rattle.meaning.proofs.Numbers.{by-test, tally-ext, tally-le}
-use Rattle.meaning.proofs.Trip.{decode-words}
+use Rattle.meaning.proofs.Trip.{decode-indexed}
 use Rattle.meaning.proofs.Fresh.{fresh-proper}
 use Rattle.meaning.specs.Whole.{members}
 use Rattle.theorems.proofs.Rooms.{entry-is}
@@ -280,9 +280,6 @@ record Follows (c : Counts) (C : ℕ) (S t : List ℕ) (r : Ran) : Type 0 where
   hits : r .counts .hits ≡ c .hits + hitsOn C S t
   pages : pagesOn (decode (r .left)) 1 ≡ listAfter C S t
 
-comes-back : (m : Mem) → Lru m → decode (words m) ≡ m
-comes-back m L = decode-words m (record { fine = L .proper .indexed .fine; canonical = L .proper .indexed .canonical })
-
 adds : (c : Counts) (k : Kind) → counted c k .hits ≡ c .hits + one (isHit k)
 unfolding counted one
 adds c hit = refl
@@ -293,13 +290,13 @@ follows : (t : List ℕ) (c : Counts) (m : Mem) → Lru m → m .tops 0 ≡ 1 �
 unfolding run Pages
 follows [] c m L z ps = record {
   hits = sym (add-zero (c .hits));
-  pages = unfold pagesOn in ap (λ (x : Mem). pagesOn x 1) (comes-back m L) ∙ simp z;
+  pages = unfold pagesOn in ap (λ (x : Mem). pagesOn x 1) (decode-indexed m (L .proper .indexed)) ∙ simp z;
 }
 follows (p ∷ t) c m L z ps =
     let k = request m p .reply .kind in
     let g = projection m L p (ps .0) z in
     let next = follows t (counted c k) (request m p .mem) (g .keeps) (ap (λ (f : ℕ → ℕ). f 0) (g .tops) ∙ z) (ps .1) in
-    subst (λ (x : Mem). Follows c (m .tops 1) (shown m) (p ∷ t) (run (counted c (request x p .reply .kind)) (words (request x p .mem)) t)) (sym (comes-back m L)) (record {
+    subst (λ (x : Mem). Follows c (m .tops 1) (shown m) (p ∷ t) (run (counted c (request x p .reply .kind)) (words (request x p .mem)) t)) (sym (decode-indexed m (L .proper .indexed))) (record {
       hits = next .hits
           ∙ (λ j. (adds c k ∙ ap (λ (b : Bool). c .hits + one b) (g .hits)) j + hitsOn (g .tops j 1) (g .pages j) t)
           ∙ add-assoc (c .hits) (one (has (shown m) p)) (hitsOn (m .tops 1) (step (m .tops 1) p (shown m)) t);

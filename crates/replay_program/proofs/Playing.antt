@@ -18,12 +18,12 @@ use Rattle.meaning.specs.declared.Replayed.{Replayed}
 use Rattle.meaning.specs.declared.ReadText.{ReadText}
 use Rattle.meaning.specs.declared.ReadText.the-variants as reads
 use Rattle.meaning.specs.Layout.{Settings, four, entriesOf, bitsOf, lengthFor, lengthOf, settingsRefusal}
-use Rattle.meaning.specs.Calls.{Said, refused, gave, Counts, refuse, refusalOf, formed as form, wordsFor, over}
+use Rattle.meaning.specs.Calls.{Said, gave, Counts, refuse, refusalOf, formed as form, wordsFor, over}
 use Rattle.meaning.specs.Text.{Reading, unread, accepted, readText, readRefused, readGave, readSaid, readLeft}
 use Rattle.meaning.specs.Program.{Five, ended, finished, onward, replayIn, formIn, playIn, programRoom, afterRead, programmed}
 use Rattle.meaning.specs.Answers.{replaySays, formSays, lengthSays, readSays}
 use Rattle.meaning.proofs.Accepted.{few-entries}
-use Rattle.meaning.proofs.Injective.{case}
+use Rattle.meaning.proofs.Injective.{case, not-given}
 use Rattle.meaning.proofs.Fresh.{bits-small}
 use Rattle.form_look_report.specs.Forms.{FormedAs, LongAs}
 use Rattle.replay.specs.Turns.{ReplayedAs}
@@ -89,7 +89,7 @@ module _ {p c f s : ℕ} {w : WordsFor} (x : LongAs p c f s w) where
   long-enough {n} e = go (eqb (settingsRefusal p c f s) 0) refl
     where
       go : (a : Bool) → eqb (settingsRefusal p c f s) 0 ≡ a → n ≤ 9232
-      go false h = let q : _≡_ {A = Said ℕ} (gave n) (refused (settingsRefusal p c f s)) = case lengthSays (x .answer) e ∙ simp h in let z : _≡_ {A = ℕ} 0 1 = cc in absurd (omega arith)
+      go false h = absurd (not-given {n = settingsRefusal p c f s} (sym (case lengthSays (x .answer) e ∙ simp h)))
       go true h =
           let q : _≡_ {A = Said ℕ} (gave n) (gave (lengthOf (four p c f s))) = case lengthSays (x .answer) e ∙ simp h in
           let k : n ≡ lengthOf (four p c f s) = cc q in

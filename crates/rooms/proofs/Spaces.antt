@@ -1,7 +1,7 @@
 -- Room made leaves what a page that comes in asks for: over any step that makes room.
 -- Assumes nothing.
 use Prim.Native.Nat.{ℕ, _+_, _*_, _≤_, _<_}
-use mathlib.Core.Path.{_≡_, ap, _∙_}
+use mathlib.Core.Path.{_≡_, sym, ap, _∙_}
 use mathlib.Core.Bool.{true, false}
 use mathlib.Core.List.{List}
 use native.Mathlib.Omega.{arith}
@@ -35,6 +35,14 @@ use Rattle.rooms.proofs.Backs.{back-of, on-list, back-on}
 -- all that a directory keeps of its pages and lists
 pub lined : {m : Mem} → Proper m → Lined m
 lined P = record { indexed = P .indexed; ordered = P .ordered }
+
+-- so does one where room was made
+pub out-lined : {k j : ℕ} {m : Mem} {r : Room} → Out k j m r → Lined (r .mem)
+out-lined X = record { indexed = X .vacant .indexed; ordered = X .vacant .ordered }
+
+-- in which a ghost stays on its list
+pub out-ghost : {k j i : ℕ} {m : Mem} {r : Room} → Out k j m r → (e : ℕ) → m .lists e ≡ i → (i ≡ 0 → ⊥) → isHeld i ≡ false → OnList e (r .mem)
+out-ghost {r = r} X e l nz g = on-list (r .mem) (out-lined X) e (λ y. nz (sym (X .stays e (ap isHeld l ∙ g) .0 ∙ l) ∙ y))
 
 -- the pages on the four lists
 unfoldable pub all-four : Mem → ℕ

@@ -40,7 +40,7 @@ pub record Frees (ws ws′ : List ℕ) (ok : Mem → Type 0) (room : Mem → Roo
 
 -- ── The steps ──
 
--- A policy's step for a page.
+-- A step for a page, or for the page of an entry.
 unfoldable pub asking : (Mem → ℕ → Done) → ℕ → Mem → Done
 asking step page m = step m page
 

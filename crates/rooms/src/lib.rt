@@ -50,7 +50,7 @@ pub fn put_out(words: &mut [u32], e: u32) -> Freed
 }
 
 // Puts out entry e, to the front of the ghosts j.
-pub fn put_out_to(words: &mut [u32], e: u32, j: u32) -> Freed
+fn put_out_to(words: &mut [u32], e: u32, j: u32) -> Freed
     requires { ⌜ Ready (now words) (OnList e) ⌝ }
     requires { ⌜ (1 ≤ j) × (j ≤ 4) ⌝ }
     ensures { λ r. ⌜ Frees (now (words .entry)) (now (words .exit)) (OnList e) (outTo e j) r ⌝ }
@@ -92,7 +92,7 @@ pub fn remove_back(words: &mut [u32], k: u32)
 }
 
 // Makes room as LRU and segmented LRU do: if C are held, the back of list 1 is put out and removed.
-pub fn lru_room(words: &mut [u32]) -> Freed
+fn lru_room(words: &mut [u32]) -> Freed
     requires { ⌜ Ready (now words) (Evicts 1) ⌝ }
     ensures { λ r. ⌜ Frees (now (words .entry)) (now (words .exit)) (Evicts 1) lruRoom r ⌝ }
 {

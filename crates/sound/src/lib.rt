@@ -167,7 +167,7 @@ pub fn bits_of(n: usize) -> usize
 }
 
 // How many buckets k index bits make: 2^k.
-pub fn buckets_of(k: usize) -> usize
+fn buckets_of(k: usize) -> usize
     requires { ⌜ k ≤ 10 ⌝ }
     ensures { λ r. ⌜ (r ≡ 2 ^ k) × (r ≤ 1024) ⌝ }
 {

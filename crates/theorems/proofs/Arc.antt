@@ -40,26 +40,32 @@ record Came (m n : Mem) : Type 0 where
   held : (size n 1 ≡ size m 1) × (size n 2 ≡ suc (size m 2))
   ghosts : (size n 3 ≤ size m 3) × (suc (size n 3 + size n 4) ≡ size m 3 + size m 4)
 
+module _ (m : Mem) (b : Bool) where
+  -- T1 gives a page only if it has one
+  pub first-some : fromT1 m b ≡ true → 1 ≤ size m 1
+  unfolding fromT1
+  first-some t = by-test (ltb 0 (size m 1)) (λ s. omega (arith, ltb-true 0 (size m 1) s)) (λ s. no-true (sym (simp s) ∙ t))
+
+  -- where it has one and gives none, it is at most the target
+  pub first-under : fromT1 m b ≡ false → 1 ≤ size m 1 → size m 1 ≤ m .tops 6
+  unfolding fromT1
+  first-under t h = by-test (ltb (m .tops 6) (unit * size m 1))
+      (λ s. no-true (sym t ∙ simp (lt-ltb 0 (size m 1) (omega arith), s)))
+      (λ s. omega (arith, ltb-false (m .tops 6) (unit * size m 1) s))
+
 -- Replace puts out the back of T1 or of T2
 replace-out : (m : Mem) → Proper m → (b : Bool) → ((1 ≤ size m 1 → size m 1 ≤ m .tops 6) → 1 ≤ size m 2) → {Q : Type 0} → ((k j : ℕ) → Out k j m (replace m b) → Replaced m (replace m b .mem) → Q) → Q
 unfolding replace one
 replace-out m P b other f = by-test (fromT1 m b)
-    (λ t. let X = out-to m P (back m 1) 1 3 (back-list m (P .indexed) (P .ordered) 1 (omega arith) (first t)) held1 (omega arith) not3 in let F = X .four in
+    (λ t. let X = out-to m P (back m 1) 1 3 (back-list m (P .indexed) (P .ordered) 1 (omega arith) (first-some m b t)) held1 (omega arith) not3 in let F = X .four in
     f 1 3 (simp t X) (simp t (record { held = omega (arith, F); left = omega (arith, F); most = omega (arith, F) })))
-    (λ t. let X = out-to m P (back m 2) 2 4 (back-list m (P .indexed) (P .ordered) 2 (omega arith) (other (second t))) held2 (omega arith) not4 in let F = X .four in
+    (λ t. let X = out-to m P (back m 2) 2 4 (back-list m (P .indexed) (P .ordered) 2 (omega arith) (other (first-under m b t))) held2 (omega arith) not4 in let F = X .four in
     f 2 4 (simp t X) (simp t (record { held = omega (arith, F); left = omega (arith, F); most = omega (arith, F) })))
-  where
-    first : fromT1 m b ≡ true → 1 ≤ size m 1
-    first t = unfold fromT1 in by-test (ltb 0 (size m 1)) (λ s. omega (arith, ltb-true 0 (size m 1) s)) (λ s. no-true (sym (simp s) ∙ t))
 
-    second : fromT1 m b ≡ false → 1 ≤ size m 1 → size m 1 ≤ m .tops 6
-    second t h = unfold fromT1 in by-test (ltb (m .tops 6) (unit * size m 1))
-        (λ s. no-true (sym t ∙ simp (lt-ltb 0 (size m 1) (omega arith), s)))
-        (λ s. omega (arith, ltb-false (m .tops 6) (unit * size m 1) s))
-
-step-one : (mine other : ℕ) → 1 ≤ mine → 1 ≤ stepOf mine other
+-- a step of the target is at least one
+pub step-some : (mine other : ℕ) → 1 ≤ mine → 1 ≤ stepOf mine other
 unfolding stepOf
-step-one mine other h = by-test (leb other mine)
+step-some mine other h = by-test (leb other mine)
     (λ t. simp t (omega arith))
     (λ t. simp t (le-div-iff-mul-le {k = mine} {x = 1} {y = unit * other} h .1 (omega (arith, leb-false other mine t))))
 
@@ -129,7 +135,7 @@ module _ (m : Mem) (A : Arc m) where
   served-b2 : (p e : ℕ) → m .pages e ≡ p → m .lists e ≡ 4 → 1 ≤ size m 4 → Served (λ n. Arc n × (Header m n × Calm m n)) m p (arcB2 m e)
   unfolding arcB2 shrunk one
   served-b2 p e z l s =
-      let f = A .filled (omega arith) in let d = step-one (size m 4) (size m 3) s in
+      let f = A .filled (omega arith) in let d = step-some (size m 4) (size m 3) s in
       returned p (m .tops 6 - stepOf (size m 4) (size m 3)) true e 4 z l (omega arith) not4 (omega (arith, A .target)) f
       (λ w. split (size m 1) 0 (λ y _. omega (arith, y, f, A .some)) (λ y _. omega (arith, w (omega (arith, y)), d, f, A .target, A .some)))
       (λ n x G. record { held = (omega (arith, G), omega (arith, G)); ghosts = (omega (arith, G), omega (arith, G)) })

@@ -15,14 +15,16 @@ use Rattle.meaning.specs.Room.{Room, asItIs, putOut, hitAt, load}
 use Rattle.meaning.specs.Clock.{advance, Swept, sweep, seats, clockSwap, clockLoad, clock}
 use Rattle.meaning.specs.Ram.{Steps}
 use Rattle.meaning.specs.Kept.{Clock}
+use Rattle.meaning.proofs.Numbered.{held-used}
 use Rattle.meaning.proofs.Lists.{split, eqb-same}
 use Rattle.meaning.proofs.Numbers.{by-test, first-at, tally-le, tally-one}
 use Rattle.theorems.specs.Change.{Moved, Still, Header, Gap, placed}
 use Rattle.theorems.specs.Served.{Makes, Served}
 use Rattle.theorems.specs.Marked.{marked}
-use Rattle.theorems.proofs.Operations.{held-is, free-held, clear-moved, clear-bare, clear-quiet, clear-idle, placed-moved, placed-idle, free-slot, lowest-free}
+use Rattle.theorems.proofs.Operations.{free-held, clear-moved, clear-bare, clear-quiet, clear-idle, placed-moved, placed-idle, free-slot, lowest-free}
 use Rattle.theorems.proofs.Rooms.{gap-as-is, gap-out, placed-seated, entry-cases}
-use Rattle.theorems.proofs.Counts.{tally-pos, tally-full}
+use Rattle.meaning.proofs.Counted.{tally-full}
+use Rattle.theorems.proofs.Counts.{tally-pos}
 use Rattle.theorems.proofs.Word6.{word6-seated, mark-seated}
 use Rattle.theorems.proofs.Bare.{off-bare, off-fine-bare, placed-fine-bare}
 use Rattle.theorems.proofs.Serving.{still-self, still-then, still-same, makes-out, makes-none, served-hit, served-load, served-after, served-as, steps-of}
@@ -228,7 +230,7 @@ module _ (m : Mem) (K : Clock m) where
       used : (i : ℕ) → i < held m → m .lists i ≡ 0 → ⊥
       used i l =
           let k = K .seated .slotted .there i (lt-ltb i (held m) l) in let a = K .seated .slotted .at i in
-          let u = held-is (m .lists a) (k .0) in
+          let u = held-used (m .lists a) (k .0) in
           let same : a ≡ i = sym (K .unordered .own a u) ∙ k .1 in
           λ z. u (ap (m .lists) same ∙ z)
 
@@ -249,7 +251,7 @@ module _ (m : Mem) (K : Clock m) where
     here = all-used h (m .tops 6) (omega (arith, K .hand, K .all))
 
     u : m .lists (m .tops 6) ≡ 0 → ⊥
-    u = held-is (m .lists (m .tops 6)) here
+    u = held-used (m .lists (m .tops 6)) here
 
     M : Moved (m .tops 6) 0 m (clear (m .tops 6) m)
     M = clear-moved m (K .seated .indexed) (m .tops 6) u
@@ -288,7 +290,7 @@ module _ (m : Mem) (K : Clock m) where
             let g = clear (m .tops 6) m in
             let w = lowest-free g (m .tops 6) (omega (arith, M .size, M .inside)) gone in
             split (lowest g) (m .tops 6) (λ z t. z) (λ z t.
-            absurd (held-is (m .lists (lowest g)) (all-used h (lowest g) (omega (arith, w .0, M .size))) (sym (M .lists (lowest g) ∙ simp t) ∙ w .1)))
+            absurd (held-used (m .lists (lowest g)) (all-used h (lowest g) (omega (arith, w .0, M .size))) (sym (M .lists (lowest g) ∙ simp t) ∙ w .1)))
 
     -- the page at the hand is put out
     out-makes : Makes m (putOut m (m .tops 6))

@@ -84,12 +84,6 @@ tally-some (suc n) f h = by-test (f n)
 pub tally-pos : (n : ℕ) (f : ℕ → Bool) (e : ℕ) → e < n → f e ≡ true → 1 ≤ tally n f
 tally-pos n f e h t = omega (arith, tally-one n f (λ i. cond (eqb i e) false (f i)) e h t (simp (eqb-same e)) (λ i d. simp (ne-eqb i e d)))
 
--- where as many pass as there are, all do
-pub tally-full : (n : ℕ) (f : ℕ → Bool) → n ≤ tally n f → (e : ℕ) → e < n → f e ≡ true
-tally-full n f h e he = by-test (f e) (λ t. t) (λ t.
-    let g : ℕ → Bool = λ i. cond (eqb i e) true (f i) in
-    absurd (omega (arith, tally-one n g f e he (simp (eqb-same e)) t (λ i d. simp (ne-eqb i e d)), tally-le n g)))
-
 -- no more pages are held than there are entries
 pub held-most : (m : Mem) → held m ≤ m .tops 2
 unfolding held

@@ -10,11 +10,12 @@ use Rattle.meaning.specs.Layout.{isHeld}
 use Rattle.meaning.specs.Mem.{Mem, held, off, push, withSlot, toFront, moveTo}
 use Rattle.meaning.specs.Proper.{Indexed, Ordered, Slotted, upTo, Proper}
 use Rattle.meaning.specs.Vacant.{Vacant}
+use Rattle.meaning.proofs.Numbered.{held-used}
 use Rattle.meaning.proofs.Lists.{split, eqb-same, no-true}
 use Rattle.meaning.proofs.Numbers.{tally-one}
 use Rattle.meaning.proofs.Fine.{front-fine, slot-fine}
 use Rattle.theorems.specs.Change.{Moved, Quiet}
-use Rattle.theorems.proofs.Operations.{held-is, within, paged, front-ordered}
+use Rattle.theorems.proofs.Operations.{within, paged, front-ordered}
 use Rattle.theorems.proofs.Rooms.{slotted-as, slots-full}
 
 module _ (m : Mem) (I : Indexed m) (e j s : ℕ) (u : m .lists e ≡ 0 → ⊥) where
@@ -115,7 +116,7 @@ module _ (m : Mem) (I : Indexed m) (e j s : ℕ) (u : m .lists e ≡ 0 → ⊥) 
 -- a held page put out to the ghosts
 pub vacant-to : (m : Mem) → Proper m → (e j : ℕ) → isHeld (m .lists e) ≡ true → (1 ≤ j) × (j ≤ 4) → isHeld j ≡ false → Vacant (m .slots e) (moveTo e j NONE m)
 vacant-to m P e j h hj g =
-    let I = P .indexed in let O = P .ordered in let u = held-is (m .lists e) h in
+    let I = P .indexed in let O = P .ordered in let u = held-used (m .lists e) h in
     let n = held-down m I e j NONE u h g in
     record {
       indexed = move-indexed m I e j NONE u O hj (λ _. refl);

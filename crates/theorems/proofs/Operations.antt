@@ -13,6 +13,7 @@ use Rattle.meaning.specs.Layout.{isHeld}
 use Rattle.meaning.specs.Mem.{Mem, home, held, off, push, hang, unhang, withSlot, withMark, blanked, toFront, clear, fill, lowest, taken, freeSlot}
 use Rattle.meaning.specs.Places.{Fine}
 use Rattle.meaning.specs.Proper.{Indexed, Ordered, Slotted, upTo, Seated, Proper, Sits}
+use Rattle.meaning.proofs.Numbered.{held-used}
 use Rattle.meaning.proofs.Lists.{split, eqb-same, no-true, has-remove}
 use Rattle.meaning.proofs.Numbers.{by-test, first-hit, first-at, some-hit, some-miss, tally-ext, tally-one}
 use Rattle.meaning.proofs.Fine.{unhang-fine, blanked-fine, front-fine}
@@ -34,11 +35,6 @@ module _ (ord : ℕ → List ℕ) (j e : ℕ) where
   joined-here : has (put ord j (e ∷ ord j) j) e ≡ true
   unfolding has
   joined-here = simp (eqb-same j, eqb-same e)
-
--- a list of held pages is a list
-pub held-is : (j : ℕ) → isHeld j ≡ true → j ≡ 0 → ⊥
-unfolding isHeld
-held-is j h z = no-true (sym (ap isHeld z) ∙ h)
 
 -- a free entry holds nothing
 pub free-held : isHeld 0 ≡ false
@@ -298,18 +294,18 @@ module _ (m : Mem) (P : Seated m) where
   -- no page is in two slots
   pub pages-apart : {q s t : ℕ} → Sits q s m → Sits q t m → s ≡ t
   pages-apart a b =
-      sym (a .slot) ∙ ap (m .slots) (P .indexed .fine .apart (a .entry) (b .entry) (paged m (P .indexed) (a .entry) (held-is _ (a .held))) (a .page ∙ sym (b .page))) ∙ b .slot
+      sym (a .slot) ∙ ap (m .slots) (P .indexed .fine .apart (a .entry) (b .entry) (paged m (P .indexed) (a .entry) (held-used _ (a .held))) (a .page ∙ sym (b .page))) ∙ b .slot
 
   -- NONE is never held
   pub real : {q s : ℕ} → Sits q s m → q ≡ NONE → ⊥
-  real a z = paged m (P .indexed) (a .entry) (held-is _ (a .held)) (a .page ∙ z)
+  real a z = paged m (P .indexed) (a .entry) (held-used _ (a .held)) (a .page ∙ z)
 
   taken-below : (s : ℕ) → s < held m → taken m s ≡ true
   unfolding taken
   taken-below s h =
       let k = P .slotted .there s (lt-ltb s (held m) h) in
       let i = P .slotted .at s in
-      some-hit (m .tops 2) _ i (within m (P .indexed) i (held-is _ (k .0))) (simp (k .0, eq-eqb (m .slots i) s (k .1)))
+      some-hit (m .tops 2) _ i (within m (P .indexed) i (held-used _ (k .0))) (simp (k .0, eq-eqb (m .slots i) s (k .1)))
 
   free-above : (s : ℕ) → held m ≤ s → taken m s ≡ false
   unfolding taken

@@ -11,9 +11,10 @@ use Rattle.meaning.specs.Policies.{request}
 use Rattle.meaning.specs.Proper.{Seated, Sits}
 use Rattle.meaning.specs.Whole.{Whole}
 use Rattle.meaning.specs.Ram.{loadsAs, loads, Right, NeverWrong, Steps, Pages}
+use Rattle.meaning.proofs.Numbered.{held-used}
 use Rattle.meaning.proofs.Lists.{split}
 use Rattle.theorems.specs.Safe.{after, Safe}
-use Rattle.theorems.proofs.Operations.{held-is, slots-apart, pages-apart}
+use Rattle.theorems.proofs.Operations.{slots-apart, pages-apart}
 use Rattle.theorems.proofs.Serving.{served-as, steps-of}
 use Rattle.theorems.proofs.Whole.{whole-seated, request-served, request-whole}
 use Rattle.meaning.proofs.Back.{fresh-whole}
@@ -67,7 +68,7 @@ after-whole (p ∷ ps) m W hs = after-whole ps (request m p .mem) (request-whole
 -- nothing is held in a fresh directory
 fresh-holds : (s : Settings) (q x : ℕ) → Sits q x (fresh s) → ⊥
 unfolding fresh empty
-fresh-holds s q x S = held-is 0 (S .held) refl
+fresh-holds s q x S = held-used 0 (S .held) refl
 
 -- never the wrong slot: from a fresh directory, along any pages, with whatever RAM held before
 pub never-wrong : (s : Settings) → settingsRefusal (s .policy) (s .C) (s .first) (s .second) ≡ 0 → (ram : ℕ → ℕ) (ps : List ℕ) → Pages ps → NeverWrong request ram (fresh s) ps

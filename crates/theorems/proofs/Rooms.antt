@@ -14,11 +14,12 @@ use Rattle.meaning.specs.Mem.{Mem, held, entryOf, listOn, off, push, hang, with
 use Rattle.meaning.specs.Places.{Fine}
 use Rattle.meaning.specs.Proper.{Indexed, Ordered, Slotted, upTo, Seated, Proper}
 use Rattle.meaning.specs.Vacant.{Vacant}
+use Rattle.meaning.proofs.Numbered.{held-used}
 use Rattle.meaning.proofs.Lists.{split, eqb-same, no-true}
 use Rattle.meaning.proofs.Numbers.{by-test, first-hit, first-miss}
 use Rattle.meaning.proofs.Fine.{off-fine, fill-fine}
 use Rattle.theorems.specs.Change.{Gap, placed}
-use Rattle.theorems.proofs.Operations.{held-is, front-indexed, front-ordered, front-slotted, front-held, clear-indexed, clear-ordered, clear-slotted, clear-held, ghost-slotted, ghost-held, placed-indexed, placed-slotted, placed-held, fill-ordered, seated, free-slot, lowest-free}
+use Rattle.theorems.proofs.Operations.{front-indexed, front-ordered, front-slotted, front-held, clear-indexed, clear-ordered, clear-slotted, clear-held, ghost-slotted, ghost-held, placed-indexed, placed-slotted, placed-held, fill-ordered, seated, free-slot, lowest-free}
 
 -- slots in use, by another test that says the same
 pub slotted-as : {G H : ℕ → Bool} (m : Mem) → ((s : ℕ) → G s ≡ H s) → Slotted G m → Slotted H m
@@ -62,7 +63,7 @@ gap-as-is m P h = rw (free-slot m P h) (record {
 -- a held entry put out and removed
 pub gap-out : (m : Mem) → Seated m → (e : ℕ) → isHeld (m .lists e) ≡ true → Fine (off e m) → Gap (m .slots e) (clear e m)
 gap-out m P e h F =
-    let I = P .indexed in let u = held-is (m .lists e) h in
+    let I = P .indexed in let u = held-used (m .lists e) h in
     let n = clear-held m I e u h in
     record {
       indexed = clear-indexed m I e u F;
@@ -73,7 +74,7 @@ gap-out m P e h F =
 -- a held entry put out and removed, in a directory with lists
 pub vacant-out : (m : Mem) → Proper m → (e : ℕ) → isHeld (m .lists e) ≡ true → Vacant (m .slots e) (clear e m)
 vacant-out m P e h =
-    let u = held-is (m .lists e) h in
+    let u = held-used (m .lists e) h in
     vacant-of (gap-out m (seated m P) e h (off-fine m (P .indexed .fine) e (P .ordered .listed e u))) (clear-ordered m (P .indexed) e u (P .ordered))
 
 -- ── A ghost removed ──

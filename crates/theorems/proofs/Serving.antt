@@ -13,10 +13,11 @@ use Rattle.meaning.specs.Mem.{Mem}
 use Rattle.meaning.specs.Room.{hit, loaded, swapped, Done, Room, asItIs, hitAt, load}
 use Rattle.meaning.specs.Proper.{Indexed, Seated, Sits}
 use Rattle.meaning.specs.Ram.{Steps}
+use Rattle.meaning.proofs.Numbered.{held-used}
 use Rattle.meaning.proofs.Lists.{split, eqb-same, no-true}
 use Rattle.theorems.specs.Change.{Moved, Still, Quiet}
 use Rattle.theorems.specs.Served.{Makes, Served}
-use Rattle.theorems.proofs.Operations.{held-is, paged}
+use Rattle.theorems.proofs.Operations.{paged}
 
 -- nothing changes
 pub quiet-self : {m : Mem} → Quiet m m
@@ -93,7 +94,7 @@ module _ {e j : ℕ} {m n : Mem} (r : Moved e j m n) where
     stay = λ S d. goes S (λ y. d (sym (S .page) ∙ ap (m .pages) y));
     gone = λ _. (
       record { entry = e; held = h; page = refl; slot = refl },
-      λ s S. gone S (sym (I .fine .apart e (S .entry) (paged m I e (held-is _ h)) (sym (came S (gone S) .page)))),
+      λ s S. gone S (sym (I .fine .apart e (S .entry) (paged m I e (held-used _ h)) (sym (came S (gone S) .page)))),
     );
     pages = was k;
   }

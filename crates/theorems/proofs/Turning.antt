@@ -11,12 +11,13 @@ use Rattle.meaning.specs.Layout.{isHeld}
 use Rattle.meaning.specs.Mem.{Mem, held, size, off, push, hang, withSlot, fill, toFront, moveTo, clear, enter, lowest}
 use Rattle.meaning.specs.Room.{Room, asItIs, putOut, putOutTo, enters, returns}
 use Rattle.meaning.specs.Proper.{Indexed, Ordered, Proper, Sits}
+use Rattle.meaning.proofs.Numbered.{held-used}
 use Rattle.meaning.proofs.Lists.{eqb-same, no-true}
 use Rattle.theorems.specs.Change.{Moved, Quiet, placed}
 use Rattle.theorems.specs.Served.{Served}
 use Rattle.theorems.specs.Sizes.{Four}
 use Rattle.theorems.specs.Turn.{Turn, Out, Made}
-use Rattle.theorems.proofs.Operations.{held-is, free-held, paged, front-moved, clear-moved, clear-bare, clear-quiet, clear-ordered, placed-moved, seated, lowest-free}
+use Rattle.theorems.proofs.Operations.{free-held, paged, front-moved, clear-moved, clear-bare, clear-quiet, clear-ordered, placed-moved, seated, lowest-free}
 use Rattle.theorems.proofs.Rooms.{front-proper, vacant-of, gap-as-is, vacant-out, removed, ghost-gone, enter-proper}
 use Rattle.theorems.proofs.Moves.{move-moved, move-page, move-slot, move-quiet, vacant-to, return-proper}
 use Rattle.theorems.proofs.Counts.{four-after, spare}
@@ -50,7 +51,7 @@ module _ (m : Mem) (P : Proper m) where
   O = P .ordered
 
   used : (e k : ℕ) → m .lists e ≡ k → isHeld k ≡ true → m .lists e ≡ 0 → ⊥
-  used e k z h y = held-is k h (sym z ∙ y)
+  used e k z h y = held-used k h (sym z ∙ y)
 
   -- nothing happens
   pub self-turn : Turn 0 0 m m

@@ -6,7 +6,7 @@ use lib.ListN.{length, getD, drop, length-append}
 use lib.Seq.{sets}
 use borrow.Author.Tests.{lt-ltb, le-ltb}
 use native.Mathlib.Omega.{arith}
-use Rattle.meaning.specs.Calls.{Outcome, refused, gave, over}
+use Rattle.meaning.specs.Calls.{Outcome, refused, gave, refuse, over}
 use Rattle.meaning.specs.Text.{lineOf, pageLines, textOf, pageKey, policyKey, capacityKey, firstKey, secondKey, countKey, wrote}
 use Rattle.meaning.specs.declared.Written.the-variants as writes
 use Rattle.trace_text.specs.Contracts.{WrittenAs}
@@ -57,12 +57,12 @@ module _ (p c f g : ℕ) (trace out : List ℕ) where
 
   -- A trace that is too long is refused.
   pub refuses-many : 65535 < length trace → WrittenAs p c f g trace out (writes.Refused 7) out
-  unfolding wrote
+  unfolding wrote refuse
   refuses-many h = refuses (simp (lt-ltb 65535 (length trace) h))
 
   -- A buffer that is too short is refused.
   pub refuses-short : {n : ℕ} → length trace ≤ 65535 → n ≡ length (textOf p c f g trace) → length out < n → WrittenAs p c f g trace out (writes.Refused 8) out
-  unfolding wrote
+  unfolding wrote refuse
   refuses-short h q k = refuses (simp (le-ltb 65535 (length trace) h, lt-ltb (length out) (length (textOf p c f g trace)) (omega arith)))
 
   -- Any other text is written.

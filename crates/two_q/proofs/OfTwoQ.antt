@@ -13,7 +13,7 @@ use Rattle.meaning.specs.declared.Found.{Found}
 use Rattle.meaning.specs.declared.Found.the-variants.{At, Nothing}
 use Rattle.meaning.specs.Base.{one}
 use Rattle.meaning.specs.Neighbours.{NONE}
-use Rattle.meaning.specs.Layout.{isHeld, cellAt}
+use Rattle.meaning.specs.Layout.{cellAt}
 use Rattle.meaning.specs.Mem.{Mem, word, held, full, size, back, listOn, clear}
 use Rattle.meaning.specs.Room.{Room, asItIs, putOut, putOutTo, hitAt}
 use Rattle.meaning.specs.TwoQ.{trimmed, trimmedRoom, makeRoom, twoQ}
@@ -35,8 +35,8 @@ use Rattle.lists.specs.Told.{Gives, GivesOf, Answers}
 use Rattle.rooms.specs.declared.Freed.{Freed}
 use Rattle.rooms.specs.Rooms.{Ends, Serves, Clears, Frees, asking, filling, entering, returning, hitFront, backOut, backTo, backGone, Lined, HasBack, Then}
 use Rattle.rooms.proofs.Rooming.{frees-as, serves-as, says-hit}
-use Rattle.rooms.proofs.Backs.{back-of, on-list}
-use Rattle.rooms.proofs.Spaces.{lined, all-four, space-in, is-over, not-over, Hits, found-entry, hits, found-nothing}
+use Rattle.rooms.proofs.Backs.{back-of}
+use Rattle.rooms.proofs.Spaces.{lined, out-lined, out-ghost, all-four, space-in, is-over, not-over, Hits, found-entry, hits, found-nothing}
 
 -- ── A1out is trimmed ──
 
@@ -79,17 +79,12 @@ module _ (m : Mem) (T : TwoQ m) where
 
   -- the lists are right after it
   plain-lined : Lined (plainRoom m .mem)
-  plain-lined = plain-cases (λ r. Lined (r .mem)) (λ _ _ X. of X) (λ _ _ _ X. of X) (λ _ _ _ X. of X)
-    where
-      of : {k j : ℕ} {r : Room} → Out k j m r → Lined (r .mem)
-      of X = record { indexed = X .vacant .indexed; ordered = X .vacant .ordered }
+  plain-lined = plain-cases (λ r. Lined (r .mem)) (λ _ _ X. out-lined X) (λ _ _ _ X. out-lined X) (λ _ _ _ X. out-lined X)
 
   -- a ghost stays on its list
   plain-ghost : (e : ℕ) → m .lists e ≡ 3 → OnList e (plainRoom m .mem)
-  plain-ghost e l = plain-cases (λ r. OnList e (r .mem)) (λ _ _ X. of X) (λ _ _ _ X. of X) (λ _ _ _ X. of X)
-    where
-      of : {k j : ℕ} {r : Room} → Out k j m r → OnList e (r .mem)
-      of {r = r} X = on-list (r .mem) (record { indexed = X .vacant .indexed; ordered = X .vacant .ordered }) e (λ y. omega (arith, sym (X .stays e (ap isHeld l ∙ not3) .0 ∙ l) ∙ y))
+  plain-ghost e l =
+      plain-cases (λ r. OnList e (r .mem)) (λ _ _ X. out-ghost X e l (omega arith) not3) (λ _ _ _ X. out-ghost X e l (omega arith) not3) (λ _ _ _ X. out-ghost X e l (omega arith) not3)
 
   -- only a page put out to A1out can bring it over Kout, so A1out may be trimmed always
   make-is : makeRoom m ≡ trimmedRoom (plainRoom m)
