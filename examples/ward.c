@@ -61,7 +61,7 @@ static void look(const uint32_t *words, size_t n, uint32_t page)
 /* Prints the pages of list 1. */
 static void report(const uint32_t *words, size_t n)
 {
-    uint32_t pages[SLOTS], count[1] = {0};
+    uint32_t pages[SLOTS] = {0}, count[1] = {0};
 
     if (refused("pd_report", pd_report(words, n, 1, pages, SLOTS, count)))
         return;
@@ -74,7 +74,7 @@ static void report(const uint32_t *words, size_t n)
 /* Prints the LRU hits of a round at each capacity up to the ward's. */
 static void curve(void)
 {
-    uint32_t hits[SLOTS], list[SLOTS];
+    uint32_t hits[SLOTS] = {0}, list[SLOTS] = {0};
 
     if (refused("pd_curve", pd_curve(SLOTS, ROUND, ROUND_PAGES, hits, SLOTS, list, SLOTS)))
         return;
@@ -85,7 +85,7 @@ static void curve(void)
 /* Runs the ward's round. */
 int main(void)
 {
-    uint32_t words[ROOM];
+    uint32_t words[ROOM] = {0};
     size_t n = form(words);
 
     if (n == 0)

@@ -1,44 +1,39 @@
 -- ARC's step, from its parts.
--- Assumes nothing.
 use Prim.Native.Nat.{ℕ, _+_, _*_, _-_, _/_, _≤_, _<_, min}
 use mathlib.Core.Path.{_≡_, refl, sym, ap, ap₂, _∙_, subst}
 use mathlib.Core.Bool.{Bool, true, false}
 use mathlib.Core.List.{List}
-use mathlib.Core.Logic.{_⊎_, inl, inr, ⊎-elim}
 use native.Mathlib.Nat.{div-le-self}
 use native.Mathlib.Omega.{arith}
 use lib.Dec.{eqb, ltb}
-use borrow.Author.Tests.{eq-eqb, ne-eqb, lt-ltb, le-ltb, le-leb, lt-leb, leb-true, ltb-true, ltb-false}
+use borrow.Author.Tests.{eq-eqb, ne-eqb, lt-ltb, le-ltb, le-leb, lt-leb, leb-true}
 use Rattle.meaning.specs.declared.Answer.{Answer}
-use Rattle.meaning.specs.declared.Found.{Found}
-use Rattle.meaning.specs.declared.Found.the-variants.{At, Nothing}
-use Rattle.meaning.specs.Base.{one}
+use Rattle.index.specs.declared.Found.{Found}
+use Rattle.index.specs.declared.Found.the-variants.{At, Nothing}
+use Rattle.meaning.specs.Base.{oneIf}
 use Rattle.meaning.specs.Neighbours.{NONE}
-use Rattle.meaning.specs.Layout.{isHeld, unit, cellAt}
-use Rattle.meaning.specs.Mem.{Mem, word, held, full, size, back, listOn, withWord6, clear}
-use Rattle.meaning.specs.Room.{Room, asItIs, putOutTo}
+use Rattle.meaning.specs.Layout.{isHeld, unit, cellAt, listCol}
+use Rattle.meaning.specs.Mem.{Mem, word, held, full, size, back, listOn, withWord6, clear, capacityIn, capacityOf, targetOf, word6In}
+use Rattle.meaning.specs.Room.{Room, asItIs}
 use Rattle.meaning.specs.Arc.{stepOf, mostTarget, grown, shrunk, fromT1, replace, arcB1, arcB2, arcFullRow, arcUnder, arc}
-use Rattle.meaning.specs.Places.{top, cell, list, Repr, Ready, Turns, Says, Any}
-use Rattle.meaning.specs.Proper.{Proper}
-use Rattle.meaning.specs.Kept.{Arc}
-use Rattle.meaning.proofs.Lists.{split}
-use Rattle.meaning.proofs.Numbers.{by-test}
-use Rattle.theorems.specs.Turn.{Turn, Out}
+use Rattle.invariants.specs.Places.{top, list, Repr, Ready, Turns, Says, Any}
+use Rattle.invariants.specs.Assumed.{Arc}
+use Rattle.invariants.proofs.Lists.{split}
+use Rattle.invariants.proofs.Numbers.{by-test}
 use Rattle.theorems.proofs.Operations.{free-held}
 use Rattle.theorems.proofs.Rooms.{list-none}
-use Rattle.theorems.proofs.Counts.{held-sizes, list-cases}
-use Rattle.theorems.proofs.Arc.{first-some, first-under, step-some}
+use Rattle.theorems.proofs.Counts.{held-sizes, sized, list-cases}
+use Rattle.theorems.proofs.Arc.{first-some, first-under, replace-out, step-some, third-goes, fourth-goes, row-room, under-room}
 use Rattle.theorems.proofs.Word6.{word6-proper}
-use Rattle.theorems.proofs.Turning.{held1, held2, not3, not4, ghost-turn, out-to, out-off}
+use Rattle.theorems.proofs.Going.{held1, held2, not3, not4}
 use Rattle.lists.specs.Asked.{OnList}
 use Rattle.lists.specs.Asked as asked
 use Rattle.lists.specs.Told.{Gives, GivesOf, Answers}
 use Rattle.rooms.specs.declared.Freed.{Freed}
 use Rattle.rooms.specs.Rooms.{Serves, Frees, asking, filling, entering, returning, hitFront, backOut, backTo, backGone, Lined, HasBack, Then}
-use Rattle.arc.specs.Steps.{replacing, fromFirst, Replaces, NotEmpty, Ghost, ArcMiss, Row, Under, shortened}
+use Rattle.arc.specs.Inner.{replacing, fromFirst, Replaces, NotEmpty, Ghost, ArcMiss, Row, Under, shortened}
 use Rattle.rooms.proofs.Rooming.{frees-as, serves-as, turn-ready, turn-frees, turn-serves}
-use Rattle.rooms.proofs.Backs.{back-of}
-use Rattle.rooms.proofs.Spaces.{lined, out-ghost, all-four, space-in, space-out, space-as, found-entry, hits, found-nothing}
+use Rattle.rooms.proofs.Spaces.{lined, out-ghost, space-made, found-list, hits, found-nothing}
 
 -- ── The target ──
 
@@ -57,12 +52,12 @@ pub some-size : {ws : List ℕ} {k n : ℕ} → Says ws (GivesOf size k n) → R
 some-size s o = omega (arith, s .of (o .mem) (o .repr) .is, o .meets .some)
 
 -- the target is small enough for a sum
-pub target-fits : {ws : List ℕ} {k p : ℕ} → p ≡ word ws 6 → Ready ws (NotEmpty k) → p ≤ 1024
+pub target-fits : {ws : List ℕ} {k p : ℕ} → p ≡ word6In ws → Ready ws (NotEmpty k) → p ≤ 1024
 target-fits e o = let A = o .meets .arc in omega (arith, e ∙ o .repr .holds .at (top 6) (omega arith), A .target, A .all, o .repr .fine .few)
 
-module _ {ws ws′ : List ℕ} {p b1 b2 d q : ℕ} (ep : p ≡ word ws 6) (s1 : Says ws (GivesOf size 3 b1)) (s2 : Says ws (GivesOf size 4 b2)) (t : Turns ws ws′ Any (withWord6 q)) where
+module _ {ws ws′ : List ℕ} {p b1 b2 d q : ℕ} (ep : p ≡ word6In ws) (s1 : Says ws (GivesOf size 3 b1)) (s2 : Says ws (GivesOf size 4 b2)) (t : Turns ws ws′ Any (withWord6 q)) where
   -- the code's new target is that of a page in B1
-  pub grow-turns : {c : ℕ} → c ≡ word ws 1 → d ≡ stepOf b1 b2 → q ≡ min (1 * c) (p + d) → Turns ws ws′ (NotEmpty 3) grown
+  pub grow-turns : {c : ℕ} → c ≡ capacityIn ws → d ≡ stepOf b1 b2 → q ≡ min (1 * c) (p + d) → Turns ws ws′ (NotEmpty 3) grown
   unfolding grown
   grow-turns ec ed eq = record {
     to = λ m R o.
@@ -83,8 +78,8 @@ module _ {ws ws′ : List ℕ} {p b1 b2 d q : ℕ} (ep : p ≡ word ws 6) (s1 : 
 
 -- ── Replace ──
 
-module _ {ws : List ℕ} {p t1 : ℕ} (b : Bool) (ep : p ≡ word ws 6) (s : Says ws (GivesOf size 1 t1)) where
-  target : (m : Mem) → Repr ws m → (p ≡ m .tops 6) × (t1 ≡ size m 1)
+module _ {ws : List ℕ} {p t1 : ℕ} (b : Bool) (ep : p ≡ word6In ws) (s : Says ws (GivesOf size 1 t1)) where
+  target : (m : Mem) → Repr ws m → (p ≡ targetOf m) × (t1 ≡ size m 1)
   target m R = (ep ∙ R .holds .at (top 6) (omega arith), s .of m R .is)
 
   -- T1 is empty
@@ -95,7 +90,7 @@ module _ {ws : List ℕ} {p t1 : ℕ} (b : Bool) (ep : p ≡ word ws 6) (s : Say
   -- T1 is over p
   pub first-over : (t1 ≡ 0 → ⊥) → p < 1 * t1 → Says ws (Gives (fromFirst b) true)
   unfolding fromFirst fromT1
-  first-over z h = record { of = λ m R. let k = target m R in record { is = sym (simp (lt-ltb 0 (size m 1) (omega (arith, k, z)), lt-ltb (m .tops 6) (unit * size m 1) (omega (arith, k)))) } }
+  first-over z h = record { of = λ m R. let k = target m R in record { is = sym (simp (lt-ltb 0 (size m 1) (omega (arith, k, z)), lt-ltb (targetOf m) (unit * size m 1) (omega (arith, k)))) } }
 
   -- T1 may be p, and the page asked for is in B2
   pub first-tie : (t1 ≡ 0 → ⊥) → 1 * t1 ≤ p → b ≡ true → Says ws (Gives (fromFirst b) (eqb (1 * t1) p))
@@ -103,7 +98,7 @@ module _ {ws : List ℕ} {p t1 : ℕ} (b : Bool) (ep : p ≡ word ws 6) (s : Say
   first-tie z h y = record {
     of = λ m R.
         let k = target m R in
-        record { is = ap₂ (λ (x v : ℕ). eqb (1 * x) v) (k .1) (k .0) ∙ sym (simp (y, lt-ltb 0 (size m 1) (omega (arith, k, z)), le-ltb (m .tops 6) (unit * size m 1) (omega (arith, k)))) };
+        record { is = ap₂ (λ (x v : ℕ). eqb (1 * x) v) (k .1) (k .0) ∙ sym (simp (y, lt-ltb 0 (size m 1) (omega (arith, k, z)), le-ltb (targetOf m) (unit * size m 1) (omega (arith, k)))) };
   }
 
   -- T1 is not over p, and the page asked for is not in B2
@@ -112,26 +107,8 @@ module _ {ws : List ℕ} {p t1 : ℕ} (b : Bool) (ep : p ≡ word ws 6) (s : Say
   first-not h y = record {
     of = λ m R.
         let k = target m R in
-        record { is = by-test (ltb 0 (size m 1)) (λ t. sym (simp (y, t, le-ltb (m .tops 6) (unit * size m 1) (omega (arith, k))))) (λ t. sym (simp t)) };
+        record { is = by-test (ltb 0 (size m 1)) (λ t. sym (simp (y, t, le-ltb (targetOf m) (unit * size m 1) (omega (arith, k))))) (λ t. sym (simp t)) };
   }
-
-module _ (m : Mem) (b : Bool) where
-  -- the back of T1 or of T2 goes out
-  module _ (P : Proper m) (other : fromT1 m b ≡ false → 1 ≤ size m 2) where
-    replace-cases : (Q : Room → Type 0) → (Out 1 3 m (putOutTo m (back m 1) 3) → Q (putOutTo m (back m 1) 3)) → (Out 2 4 m (putOutTo m (back m 2) 4) → Q (putOutTo m (back m 2) 4)) → Q (replace m b)
-    unfolding replace
-    replace-cases Q f g = by-test (fromT1 m b)
-        (λ t. simp t (f (out-to m P (back m 1) 1 3 (back-of m P 1 (omega arith) (first-some m b t)) held1 (omega arith) not3)))
-        (λ t. simp t (g (out-to m P (back m 2) 2 4 (back-of m P 2 (omega arith) (other t)) held2 (omega arith) not4)))
-
-    -- a ghost stays on its list
-    replace-ghost : (e k : ℕ) → m .lists e ≡ k → (k ≡ 0 → ⊥) → isHeld k ≡ false → OnList e (replace m b .mem)
-    replace-ghost e k l nz g = replace-cases (λ r. OnList e (r .mem)) (λ X. out-ghost X e l nz g) (λ X. out-ghost X e l nz g)
-
-    -- a new page finds room
-    replace-space : all-four m < m .tops 2 → (p : ℕ) → p < NONE → ((i : ℕ) → m .pages i ≡ p → ⊥) → asked.Room p (replace m b .mem)
-    unfolding all-four one
-    replace-space few p hp absent = replace-cases (λ r. asked.Room p (r .mem)) (λ X. space-out X p hp absent (λ F. omega (arith, F, few))) (λ X. space-out X p hp absent (λ F. omega (arith, F, few)))
 
 module _ {ws : List ℕ} (b : Bool) {d : Bool} (s : Says ws (Gives (fromFirst b) d)) where
   from : (m : Mem) → Repr ws m → d ≡ fromT1 m b
@@ -172,7 +149,7 @@ same-list : (m : Mem) (v e : ℕ) → withWord6 v m .lists e ≡ m .lists e
 unfolding withWord6
 same-list m v e = refl
 
-same-target : (m : Mem) (v : ℕ) → withWord6 v m .tops 6 ≡ v
+same-target : (m : Mem) (v : ℕ) → targetOf (withWord6 v m) ≡ v
 unfolding withWord6
 same-target m v = refl
 
@@ -183,33 +160,26 @@ unfolding replacing
 comes m A b v e k l nz g other =
     let P = word6-proper m v (A .proper) in
     let o : fromT1 (withWord6 v m) b ≡ false → 1 ≤ size (withWord6 v m) 2 = λ t. omega (arith, other t, same-size m v 2) in
-    record { asks = record { lined = lined P; other = o }; leaves = replace-ghost (withWord6 v m) b P o e k (same-list m v e ∙ l) nz g }
+    record { asks = record { lined = lined P; other = o }; leaves = replace-out (withWord6 v m) P b o (λ r. OnList e (r .mem)) (λ k₀ j r X _. out-ghost X e (same-list m v e ∙ l) nz g) }
 
 module _ (m : Mem) (e : ℕ) where
-  ghost-some : (k : ℕ) → Arc m → m .lists e ≡ k → (k ≡ 3) ⊎ (k ≡ 4) → 1 ≤ size m k
-  ghost-some k A l w = list-cases m (A .proper .indexed) (A .proper .ordered) e (λ y. ⊎-elim (λ z. omega (arith, y, l, z)) (λ z. omega (arith, y, l, z)) w)
-      (λ y s. absurd (⊎-elim (λ z. omega (arith, y, l, z)) (λ z. omega (arith, y, l, z)) w))
-      (λ y s. absurd (⊎-elim (λ z. omega (arith, y, l, z)) (λ z. omega (arith, y, l, z)) w))
-      (λ y s. subst (λ (x : ℕ). 1 ≤ size m x) (sym y ∙ l) s)
-      (λ y s. subst (λ (x : ℕ). 1 ≤ size m x) (sym y ∙ l) s)
-
   some-b1 : Ghost 3 e m → NotEmpty 3 m
-  some-b1 o = record { arc = o .arc; some = ghost-some 3 (o .arc) (o .on) (inl refl) }
+  some-b1 o = let P = o .arc .proper in record { arc = o .arc; some = sized m (P .seated .indexed) (P .ordered) e 3 (omega arith) (o .on) }
 
   some-b2 : Ghost 4 e m → NotEmpty 4 m
-  some-b2 o = record { arc = o .arc; some = ghost-some 4 (o .arc) (o .on) (inr refl) }
+  some-b2 o = let P = o .arc .proper in record { arc = o .arc; some = sized m (P .seated .indexed) (P .ordered) e 4 (omega arith) (o .on) }
 
   comes-b1 : Ghost 3 e m → Then (Replaces false) (replacing false) (OnList e) (grown m)
   unfolding grown
   comes-b1 o =
       let A = o .arc in let s = some-b1 o .some in
-      comes m A false (min (mostTarget m) (m .tops 6 + stepOf (size m 3) (size m 4))) e 3 (o .on) (omega arith) not3 (λ _. omega (arith, A .filled (omega (arith, s)), s, A .left))
+      comes m A false (min (mostTarget m) (targetOf m + stepOf (size m 3) (size m 4))) e 3 (o .on) (omega arith) not3 (λ _. omega (arith, A .filled (omega (arith, s)), s, A .left))
 
   comes-b2 : Ghost 4 e m → Then (Replaces true) (replacing true) (OnList e) (shrunk m)
   unfolding shrunk
   comes-b2 o =
       let A = o .arc in let s = some-b2 o .some in let f = A .filled (omega (arith, s)) in
-      let v = m .tops 6 - stepOf (size m 4) (size m 3) in let d = step-some (size m 4) (size m 3) s in
+      let v = targetOf m - stepOf (size m 4) (size m 3) in let d = step-some (size m 4) (size m 3) s in
       comes m A true v e 4 (o .on) (omega arith) not4 (λ t. split (size m 1) 0
       (λ y _. omega (arith, y, f, A .some))
       (λ y _. omega (arith, first-under (withWord6 v m) true t (omega (arith, y, same-size m v 1)), same-size m v 1, same-target m v, d, f, A .target, A .some)))
@@ -241,62 +211,34 @@ module _ {ws ws₁ : List ℕ} {e : ℕ} where
   unfolding filling replacing returning asking arcB2
   b2-serves t S = turn-serves t S (λ m R g. (some-b2 m e g, comes-b2 m e g, refl))
 
--- ── Room for a new page ──
-
--- n is m, or m without a ghost, and has fewer pages than entries
-record Short (m n : Mem) : Type 0 where
-  proper : Proper n
-  first : size n 1 ≡ size m 1
-  second : size n 2 ≡ size m 2
-  few : all-four n < n .tops 2
-  pages : (p : ℕ) → p < NONE → (i : ℕ) → n .pages i ≡ p → m .pages i ≡ p
-
--- a ghost removed
-short-ghost : (m : Mem) → Arc m → (k : ℕ) → (k ≡ 3) ⊎ (k ≡ 4) → 1 ≤ size m k → Short m (clear (back m k) m)
-unfolding all-four one
-short-ghost m A k w s = ⊎-elim
-    (λ z. let T = ghost-turn m (A .proper) (back m k) 3 (back-of m (A .proper) k (omega (arith, z)) s ∙ z) (omega arith) not3 in of T (omega (arith, T .four)) (omega (arith, T .four)) (omega (arith, T .four, A .most, A .all)))
-    (λ z. let T = ghost-turn m (A .proper) (back m k) 4 (back-of m (A .proper) k (omega (arith, z)) s ∙ z) (omega arith) not4 in of T (omega (arith, T .four)) (omega (arith, T .four)) (omega (arith, T .four, A .most, A .all)))
-    w
-  where
-    of : {j : ℕ} {n : Mem} → Turn j 0 m n → size n 1 ≡ size m 1 → size n 2 ≡ size m 2 → size n 1 + size n 2 + size n 3 + size n 4 < m .tops 2 → Short m n
-    of T a b c = record { proper = T .proper; first = a; second = b; few = omega (arith, c, ap (λ (g : ℕ → ℕ). g 2) (T .quiet .tops)); pages = T .still .pages }
-
--- ── T1+B1 = C ──
+-- ── Room for a new page: T1+B1 = C ──
 
 module _ (m : Mem) (o : Row m) where
   A : Arc m
   A = o .arc
 
-  row-third-some : size m 1 < m .tops 1 → 1 ≤ size m 3
+  row-third-some : size m 1 < capacityOf m → 1 ≤ size m 3
   row-third-some h = omega (arith, o .row)
 
-  row-short : size m 1 < m .tops 1 → Short m (clear (back m 3) m)
-  row-short h = short-ghost m A 3 (inl refl) (row-third-some h)
+  -- once B1's back is gone replace can make room
+  row-left : size m 1 < capacityOf m → Replaces false (clear (back m 3) m)
+  unfolding oneIf
+  row-left h =
+      let s = row-third-some h in let T = third-goes m A s in
+      record { lined = lined (T .proper); other = λ _. omega (arith, T .sizes, A .filled (omega (arith, s)), h) }
 
-  row-other : (h : size m 1 < m .tops 1) → 1 ≤ size (clear (back m 3) m) 2
-  row-other h = let s = row-third-some h in omega (arith, row-short h .second, A .filled (omega (arith, s)), h)
-
-  row-space : (p : ℕ) → p < NONE → ((i : ℕ) → m .pages i ≡ p → ⊥) → asked.Room p (arcFullRow m .mem)
-  unfolding arcFullRow all-four one
-  row-space p hp absent = by-test (ltb (size m 1) (m .tops 1))
-      (λ t. simp t (let h = ltb-true (size m 1) (m .tops 1) t in let S = row-short h in
-      replace-space (clear (back m 3) m) false (S .proper) (λ _. row-other h) (S .few) p hp (λ i z. absent i (S .pages p hp i z))))
-      (λ t. simp t (space-out (out-off m (A .proper) (back m 1) 1 (back-of m (A .proper) 1 (omega arith) (omega (arith, ltb-false (size m 1) (m .tops 1) t, A .some))) held1) p hp absent
-      (λ F. omega (arith, F, A .most, A .all))))
-
-module _ {ws : List ℕ} {t1 c : ℕ} (s : Says ws (GivesOf size 1 t1)) (ec : c ≡ word ws 1) where
-  row-under : t1 < c → (m : Mem) → Repr ws m → size m 1 < m .tops 1
+module _ {ws : List ℕ} {t1 c : ℕ} (s : Says ws (GivesOf size 1 t1)) (ec : c ≡ capacityIn ws) where
+  row-under : t1 < c → (m : Mem) → Repr ws m → size m 1 < capacityOf m
   row-under h m R = omega (arith, s .of m R .is, ec ∙ R .holds .at (top 1) (omega arith))
 
-  row-over : c ≤ t1 → (m : Mem) → Repr ws m → m .tops 1 ≤ size m 1
+  row-over : c ≤ t1 → (m : Mem) → Repr ws m → capacityOf m ≤ size m 1
   row-over h m R = omega (arith, s .of m R .is, ec ∙ R .holds .at (top 1) (omega arith))
 
   third : t1 < c → (m : Mem) → Repr ws m → Row m → HasBack 3 m
   third h m R o = record { lined = lined (o .arc .proper); some = row-third-some m o (row-under h m R) }
 
   replaces : t1 < c → (m : Mem) → Repr ws m → Row m → Replaces false (clear (back m 3) m)
-  replaces h m R o = let l = row-under h m R in record { lined = lined (row-short m o l .proper); other = λ _. row-other m o l }
+  replaces h m R o = row-left m o (row-under h m R)
 
   -- B1 has a back, if T1 is under C
   pub row-third : t1 < c → Ready ws Row → Ready ws (HasBack 3)
@@ -311,7 +253,7 @@ module _ {ws : List ℕ} {t1 c : ℕ} (s : Says ws (GivesOf size 1 t1)) (ec : c 
     -- and that is the room
     pub row-replaced : {ws₂ : List ℕ} {f : Freed} → Frees ws₁ ws₂ (Replaces false) (replacing false) f → Frees ws ws₂ Row arcFullRow f
     unfolding backGone replacing arcFullRow
-    row-replaced F = turn-frees t F (λ m R g. (third h m R g, replaces h m R g, simp (lt-ltb (size m 1) (m .tops 1) (row-under h m R))))
+    row-replaced F = turn-frees t F (λ m R g. (third h m R g, replaces h m R g, simp (lt-ltb (size m 1) (capacityOf m) (row-under h m R))))
 
   leads : c ≤ t1 → (m : Mem) → Repr ws m → Row m → HasBack 1 m
   leads h m R o = record { lined = lined (o .arc .proper); some = omega (arith, row-over h m R, o .arc .some) }
@@ -323,46 +265,42 @@ module _ {ws : List ℕ} {t1 c : ℕ} (s : Says ws (GivesOf size 1 t1)) (ec : c 
   -- and its back put out is the room
   pub row-out : {ws′ : List ℕ} {f : Freed} → c ≤ t1 → Frees ws ws′ (HasBack 1) (backOut 1) f → Frees ws ws′ Row arcFullRow f
   unfolding backOut arcFullRow
-  row-out h F = frees-as F (λ m R o. (leads h m R o, simp (le-ltb (size m 1) (m .tops 1) (row-over h m R))))
+  row-out h F = frees-as F (λ m R o. (leads h m R o, simp (le-ltb (size m 1) (capacityOf m) (row-over h m R))))
 
--- ── T1+B1 under C ──
+-- ── Room for a new page: T1+B1 under C ──
 
 module _ (m : Mem) (o : Under m) where
   B : Arc m
   B = o .arc
 
-  under-fourth : size m 1 + size m 2 + size m 3 + size m 4 ≡ 2 * m .tops 1 → 1 ≤ size m 4
+  under-fourth : size m 1 + size m 2 + size m 3 + size m 4 ≡ 2 * capacityOf m → 1 ≤ size m 4
   under-fourth z = omega (arith, z, o .under, B .held)
 
-  under-short : Short m (shortened m)
-  unfolding shortened all-four
-  under-short = split (size m 1 + size m 2 + size m 3 + size m 4) (2 * m .tops 1)
-      (λ z t. simp t (short-ghost m B 4 (inr refl) (under-fourth z)))
-      (λ z t. simp t (record { proper = B .proper; first = refl; second = refl; few = omega (arith, z, B .most, B .all); pages = λ p hp i y. y }))
+  -- with at most one ghost removed the lists are right, and T2 is as long as before
+  under-short : Lined (shortened m) × (size (shortened m) 2 ≡ size m 2)
+  unfolding shortened oneIf
+  under-short = split (size m 1 + size m 2 + size m 3 + size m 4) (2 * capacityOf m)
+      (λ z t. simp t (let T = fourth-goes m B (under-fourth z) in (lined (T .proper), omega (arith, T .sizes))))
+      (λ z t. simp t (lined (B .proper), refl))
 
-  under-other : full m ≡ true → 1 ≤ size (shortened m) 2
+  -- so replace can make room
+  under-left : full m ≡ true → Replaces false (shortened m)
   unfolding full
-  under-other t = omega (arith, under-short .second, leb-true (m .tops 1) (held m) t, held-sizes m (B .proper .indexed) (B .proper .ordered), o .under)
+  under-left t =
+      let S = under-short in
+      record { lined = S .0; other = λ _. omega (arith, S .1, leb-true (capacityOf m) (held m) t, held-sizes m (B .proper .seated .indexed) (B .proper .ordered), o .under) }
 
-  under-space : (p : ℕ) → p < NONE → ((i : ℕ) → m .pages i ≡ p → ⊥) → asked.Room p (arcUnder m .mem)
-  unfolding arcUnder shortened
-  under-space p hp absent =
-      let S = under-short in let gone : (i : ℕ) → shortened m .pages i ≡ p → ⊥ = λ i z. absent i (S .pages p hp i z) in
-      by-test (full m)
-      (λ t. simp t (replace-space (shortened m) false (S .proper) (λ _. under-other t) (S .few) p hp gone))
-      (λ t. simp t (space-as p (shortened m) (space-in (shortened m) (S .proper .indexed) (S .proper .ordered) (S .few) p gone)))
-
-module _ {ws : List ℕ} {c n1 n2 n3 n4 : ℕ} (ec : c ≡ word ws 1) (s1 : Says ws (GivesOf size 1 n1)) (s2 : Says ws (GivesOf size 2 n2)) (s3 : Says ws (GivesOf size 3 n3)) (s4 : Says ws (GivesOf size 4 n4)) where
-  sums : (m : Mem) → Repr ws m → (n1 + n2 + (n3 + n4) ≡ size m 1 + size m 2 + size m 3 + size m 4) × (c ≡ m .tops 1)
+module _ {ws : List ℕ} {c n1 n2 n3 n4 : ℕ} (ec : c ≡ capacityIn ws) (s1 : Says ws (GivesOf size 1 n1)) (s2 : Says ws (GivesOf size 2 n2)) (s3 : Says ws (GivesOf size 3 n3)) (s4 : Says ws (GivesOf size 4 n4)) where
+  sums : (m : Mem) → Repr ws m → (n1 + n2 + (n3 + n4) ≡ size m 1 + size m 2 + size m 3 + size m 4) × (c ≡ capacityOf m)
   sums m R = (omega (arith, s1 .of m R .is, s2 .of m R .is, s3 .of m R .is, s4 .of m R .is), ec ∙ R .holds .at (top 1) (omega arith))
 
   -- fewer than 2C, and nothing is removed
   pub shorten-none : (n1 + n2 + (n3 + n4) ≡ 2 * c → ⊥) → Turns ws ws Under shortened
   unfolding shortened
-  shorten-none z = record { to = λ m R o. simp (ne-eqb (size m 1 + size m 2 + size m 3 + size m 4) (2 * m .tops 1) (λ y. z (omega (arith, y, sums m R)))) R }
+  shorten-none z = record { to = λ m R o. simp (ne-eqb (size m 1 + size m 2 + size m 3 + size m 4) (2 * capacityOf m) (λ y. z (omega (arith, y, sums m R)))) R }
 
   module _ (z : n1 + n2 + (n3 + n4) ≡ 2 * c) where
-    total : (m : Mem) → Repr ws m → size m 1 + size m 2 + size m 3 + size m 4 ≡ 2 * m .tops 1
+    total : (m : Mem) → Repr ws m → size m 1 + size m 2 + size m 3 + size m 4 ≡ 2 * capacityOf m
     total m R = omega (arith, z, sums m R)
 
     fourth : (m : Mem) → Repr ws m → Under m → HasBack 4 m
@@ -375,21 +313,21 @@ module _ {ws : List ℕ} {c n1 n2 n3 n4 : ℕ} (ec : c ≡ word ws 1) (s1 : Says
     -- and its back is removed
     pub shorten-gone : {ws′ : List ℕ} → Turns ws ws′ (HasBack 4) (backGone 4) → Turns ws ws′ Under shortened
     unfolding shortened backGone
-    shorten-gone t = record { to = λ m R o. simp (eq-eqb (size m 1 + size m 2 + size m 3 + size m 4) (2 * m .tops 1) (total m R)) (t .to m R (fourth m R o)) }
+    shorten-gone t = record { to = λ m R o. simp (eq-eqb (size m 1 + size m 2 + size m 3 + size m 4) (2 * capacityOf m) (total m R)) (t .to m R (fourth m R o)) }
 
 -- 2C is a small number
-pub twice-fits : {ws : List ℕ} {c : ℕ} → c ≡ word ws 1 → Ready ws Under → 2 * c ≤ 1024
+pub twice-fits : {ws : List ℕ} {c : ℕ} → c ≡ capacityIn ws → Ready ws Under → 2 * c ≤ 1024
 twice-fits ec o = omega (arith, ec ∙ o .repr .holds .at (top 1) (omega arith), o .meets .arc .all, o .repr .fine .few)
 
 module _ {ws ws₁ : List ℕ} {b : Bool} (s : Says ws (Gives full b)) (t : Turns ws ws₁ Under shortened) where
   -- where C are held, replace can make room
   pub under-ready : b ≡ true → Ready ws Under → Ready ws₁ (Replaces false)
-  under-ready z o = turn-ready t (λ m R u. (u, record { lined = lined (under-short m u .proper); other = λ _. under-other m u (sym (s .of m R .is) ∙ z) })) o
+  under-ready z o = turn-ready t (λ m R u. (u, under-left m u (sym (s .of m R .is) ∙ z))) o
 
   -- and that is the room
   pub under-swap : {ws₂ : List ℕ} {f : Freed} → b ≡ true → Frees ws₁ ws₂ (Replaces false) (replacing false) f → Frees ws ws₂ Under arcUnder f
   unfolding replacing shortened arcUnder
-  under-swap z F = turn-frees t F (λ m R u. let k = sym (s .of m R .is) ∙ z in (u, record { lined = lined (under-short m u .proper); other = λ _. under-other m u k }, simp k))
+  under-swap z F = turn-frees t F (λ m R u. let k = sym (s .of m R .is) ∙ z in (u, under-left m u k, simp k))
 
   -- where fewer are held the directory is still one
   pub under-any : Ready ws Under → Ready ws₁ Any
@@ -402,43 +340,43 @@ module _ {ws ws₁ : List ℕ} {b : Bool} (s : Says ws (Gives full b)) (t : Turn
 
 -- ── A page on none of the lists ──
 
-module _ {ws : List ℕ} {p c n1 n3 : ℕ} (hp : p < NONE) (ec : c ≡ word ws 1) (s1 : Says ws (GivesOf size 1 n1)) (s3 : Says ws (GivesOf size 3 n3)) where
-  sizes : (m : Mem) → Repr ws m → (n1 ≡ size m 1) × (n3 ≡ size m 3) × (c ≡ m .tops 1)
+module _ {ws : List ℕ} {p c n1 n3 : ℕ} (hp : p < NONE) (ec : c ≡ capacityIn ws) (s1 : Says ws (GivesOf size 1 n1)) (s3 : Says ws (GivesOf size 3 n3)) where
+  sizes : (m : Mem) → Repr ws m → (n1 ≡ size m 1) × (n3 ≡ size m 3) × (c ≡ capacityOf m)
   sizes m R = (s1 .of m R .is, s3 .of m R .is, ec ∙ R .holds .at (top 1) (omega arith))
 
   nowhere : (m : Mem) → ArcMiss p m → listOn m p ≡ 0
-  nowhere m o = list-none m (o .arc .proper .indexed) p hp (o .absent)
+  nowhere m o = list-none m (o .arc .proper .seated .indexed) p hp (o .absent)
 
-  rows : n1 + n3 ≡ c → (m : Mem) → Repr ws m → ArcMiss p m → Then Row arcFullRow (asked.Room p) m
-  rows z m R o = let k : Row m = record { arc = o .arc; row = omega (arith, sizes m R) } in record { asks = k; leaves = row-space m k p hp (o .absent) }
+  rows : n1 + n3 ≡ c → (m : Mem) → Repr ws m → ArcMiss p m → Then Row arcFullRow (asked.Admits p) m
+  rows z m R o = let k : Row m = record { arc = o .arc; row = omega (arith, sizes m R) } in record { asks = k; leaves = space-made (row-room m (o .arc) (k .row)) p hp (o .absent) (λ L. omega (arith, L, o .arc .all)) }
 
   -- T1+B1 = C, and room can be made
-  pub new-row : n1 + n3 ≡ c → Ready ws (ArcMiss p) → Ready ws (Then Row arcFullRow (asked.Room p))
+  pub new-row : n1 + n3 ≡ c → Ready ws (ArcMiss p) → Ready ws (Then Row arcFullRow (asked.Admits p))
   new-row z o = record { mem = o .mem; repr = o .repr; meets = rows z (o .mem) (o .repr) (o .meets) }
 
   -- so a new page is served
-  pub new-rowed : {ws′ : List ℕ} {r : Answer} → n1 + n3 ≡ c → Serves ws ws′ (Then Row arcFullRow (asked.Room p)) (filling arcFullRow (entering p 1)) r → Serves ws ws′ (ArcMiss p) (asking arc p) r
+  pub new-rowed : {ws′ : List ℕ} {r : Answer} → n1 + n3 ≡ c → Serves ws ws′ (Then Row arcFullRow (asked.Admits p)) (filling arcFullRow (entering p 1)) r → Serves ws ws′ (ArcMiss p) (asking arc p) r
   unfolding asking filling entering arc
   new-rowed z S = serves-as S (λ m R o.
       let l = nowhere m o in
-      (rows z m R o, simp (ap isHeld l ∙ free-held, ne-eqb (listOn m p) 3 (λ y. omega (arith, y, l)), ne-eqb (listOn m p) 4 (λ y. omega (arith, y, l)), eq-eqb (size m 1 + size m 3) (m .tops 1) (omega (arith, sizes m R)))))
+      (rows z m R o, simp (ap isHeld l ∙ free-held, ne-eqb (listOn m p) 3 (λ y. omega (arith, y, l)), ne-eqb (listOn m p) 4 (λ y. omega (arith, y, l)), eq-eqb (size m 1 + size m 3) (capacityOf m) (omega (arith, sizes m R)))))
 
-  unders : (n1 + n3 ≡ c → ⊥) → (m : Mem) → Repr ws m → ArcMiss p m → Then Under arcUnder (asked.Room p) m
+  unders : (n1 + n3 ≡ c → ⊥) → (m : Mem) → Repr ws m → ArcMiss p m → Then Under arcUnder (asked.Admits p) m
   unders z m R o =
-      let d : size m 1 + size m 3 ≡ m .tops 1 → ⊥ = λ y. z (omega (arith, y, sizes m R)) in
+      let d : size m 1 + size m 3 ≡ capacityOf m → ⊥ = λ y. z (omega (arith, y, sizes m R)) in
       let k : Under m = record { arc = o .arc; under = omega (arith, d, o .arc .left) } in
-      record { asks = k; leaves = under-space m k p hp (o .absent) }
+      record { asks = k; leaves = space-made (under-room m (o .arc) (k .under)) p hp (o .absent) (λ L. omega (arith, L, o .arc .all)) }
 
   -- T1+B1 is under C, and room can be made
-  pub new-under : (n1 + n3 ≡ c → ⊥) → Ready ws (ArcMiss p) → Ready ws (Then Under arcUnder (asked.Room p))
+  pub new-under : (n1 + n3 ≡ c → ⊥) → Ready ws (ArcMiss p) → Ready ws (Then Under arcUnder (asked.Admits p))
   new-under z o = record { mem = o .mem; repr = o .repr; meets = unders z (o .mem) (o .repr) (o .meets) }
 
   -- so a new page is served, too
-  pub new-undered : {ws′ : List ℕ} {r : Answer} → (n1 + n3 ≡ c → ⊥) → Serves ws ws′ (Then Under arcUnder (asked.Room p)) (filling arcUnder (entering p 1)) r → Serves ws ws′ (ArcMiss p) (asking arc p) r
+  pub new-undered : {ws′ : List ℕ} {r : Answer} → (n1 + n3 ≡ c → ⊥) → Serves ws ws′ (Then Under arcUnder (asked.Admits p)) (filling arcUnder (entering p 1)) r → Serves ws ws′ (ArcMiss p) (asking arc p) r
   unfolding asking filling entering arc
   new-undered z S = serves-as S (λ m R o.
       let l = nowhere m o in
-      (unders z m R o, simp (ap isHeld l ∙ free-held, ne-eqb (listOn m p) 3 (λ y. omega (arith, y, l)), ne-eqb (listOn m p) 4 (λ y. omega (arith, y, l)), ne-eqb (size m 1 + size m 3) (m .tops 1) (λ y. z (omega (arith, y, sizes m R))))))
+      (unders z m R o, simp (ap isHeld l ∙ free-held, ne-eqb (listOn m p) 3 (λ y. omega (arith, y, l)), ne-eqb (listOn m p) 4 (λ y. omega (arith, y, l)), ne-eqb (size m 1 + size m 3) (capacityOf m) (λ y. z (omega (arith, y, sizes m R))))))
 
 -- ── The step ──
 
@@ -448,7 +386,7 @@ arc-lined m L = lined (L .proper)
 
 module _ {ws : List ℕ} {p : ℕ} {f : Found} (hp : p < NONE) (a : Says ws (Answers p f)) where
   misses : f ≡ Nothing → (m : Mem) → Repr ws m → Arc m → ArcMiss p m
-  misses z m R L = record { arc = L; absent = found-nothing a z hp m R (L .proper .indexed) .absent }
+  misses z m R L = record { arc = L; absent = found-nothing a z hp m R (L .proper .seated .indexed) .absent }
 
   -- a page that was not found is on none of the lists
   pub arc-missing : f ≡ Nothing → Ready ws Arc → Ready ws (ArcMiss p)
@@ -459,32 +397,29 @@ module _ {ws : List ℕ} {p : ℕ} {f : Found} (hp : p < NONE) (a : Says ws (Ans
   arc-missed z S = serves-as S (λ m R L. (misses z m R L, refl))
 
   -- a page on list j
-  module _ {e b j : ℕ} (z : f ≡ At e b) (ej : j ≡ word ws (cellAt e 1)) where
-    on : (m : Mem) → Repr ws m → m .lists e ≡ j
-    on m R = sym (ej ∙ R .holds .at (cell list e) (found-entry a z m R .hung .within))
-
+  module _ {e b j : ℕ} (z : f ≡ At e b) (ej : j ≡ word ws (cellAt e listCol)) where
     -- a page that was found on list k
     pub arc-ghost : (k : ℕ) → j ≡ k → Ready ws Arc → Ready ws (Ghost k e)
-    arc-ghost k d o = record { mem = o .mem; repr = o .repr; meets = record { arc = o .meets; on = on (o .mem) (o .repr) ∙ d } }
+    arc-ghost k d o = record { mem = o .mem; repr = o .repr; meets = record { arc = o .meets; on = found-list a z ej (o .mem) (o .repr) ∙ d } }
 
     -- a page in B1 is served
     pub arc-b1 : {ws′ : List ℕ} {r : Answer} → j ≡ 3 → Serves ws ws′ (Ghost 3 e) (asking arcB1 e) r → Serves ws ws′ Arc (asking arc p) r
     unfolding asking arc
     arc-b1 d S = serves-as S (λ m R L.
-        let k = hits a z hp m R (lined (L .proper)) in let l = k .list ∙ on m R ∙ d in
-        (record { arc = L; on = on m R ∙ d }, simp (k .entry, ap isHeld l ∙ not3, eq-eqb (listOn m p) 3 l)))
+        let k = hits a z hp m R (lined (L .proper)) in let l = k .list ∙ found-list a z ej m R ∙ d in
+        (record { arc = L; on = found-list a z ej m R ∙ d }, simp (k .entry, ap isHeld l ∙ not3, eq-eqb (listOn m p) 3 l)))
 
     -- a page in B2 is served
     pub arc-b2 : {ws′ : List ℕ} {r : Answer} → j ≡ 4 → Serves ws ws′ (Ghost 4 e) (asking arcB2 e) r → Serves ws ws′ Arc (asking arc p) r
     unfolding asking arc
     arc-b2 d S = serves-as S (λ m R L.
-        let k = hits a z hp m R (lined (L .proper)) in let l = k .list ∙ on m R ∙ d in
-        (record { arc = L; on = on m R ∙ d }, simp (k .entry, ap isHeld l ∙ not4, ne-eqb (listOn m p) 3 (λ y. omega (arith, y, l)), eq-eqb (listOn m p) 4 l)))
+        let k = hits a z hp m R (lined (L .proper)) in let l = k .list ∙ found-list a z ej m R ∙ d in
+        (record { arc = L; on = found-list a z ej m R ∙ d }, simp (k .entry, ap isHeld l ∙ not4, ne-eqb (listOn m p) 3 (λ y. omega (arith, y, l)), eq-eqb (listOn m p) 4 l)))
 
     -- a page in T1 or T2 is served
     pub arc-hit : {ws′ : List ℕ} {r : Answer} → (j ≡ 3 → ⊥) → (j ≡ 4 → ⊥) → Serves ws ws′ (OnList e) (hitFront e 2) r → Serves ws ws′ Arc (asking arc p) r
     unfolding asking hitFront arc
     arc-hit d3 d4 S = serves-as S (λ m R L.
         let k = hits a z hp m R (lined (L .proper)) in
-        let h : isHeld (m .lists e) ≡ true = list-cases m (L .proper .indexed) (L .proper .ordered) e (k .used) (λ y _. ap isHeld y ∙ held1) (λ y _. ap isHeld y ∙ held2) (λ y _. absurd (d3 (sym (on m R) ∙ y))) (λ y _. absurd (d4 (sym (on m R) ∙ y))) in
+        let h : isHeld (m .lists e) ≡ true = list-cases m (L .proper .seated .indexed) (L .proper .ordered) e (k .used) (λ y _. ap isHeld y ∙ held1) (λ y _. ap isHeld y ∙ held2) (λ y _. absurd (d3 (sym (found-list a z ej m R) ∙ y))) (λ y _. absurd (d4 (sym (found-list a z ej m R) ∙ y))) in
         (k .on, simp (k .entry, ap isHeld (k .list) ∙ h)))

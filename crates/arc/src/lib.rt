@@ -2,14 +2,14 @@
 ghost use mathlib.Core.Path.{_≡_};
 ghost use Prim.Native.Nat.{_+_, _-_, _<_, _≤_, min};
 ghost use Rattle.meaning.specs.Arc.{stepOf, grown, shrunk, arcB1, arcB2, arcFullRow, arcUnder, arc};
-ghost use Rattle.meaning.specs.Places.{Ready, Turns, Says, Any};
-ghost use Rattle.meaning.specs.Kept.{Arc};
-ghost use Rattle.lists.specs.Asked.{OnList, Room};
+ghost use Rattle.invariants.specs.Places.{Ready, Turns, Says, Any};
+ghost use Rattle.invariants.specs.Assumed.{Arc};
+ghost use Rattle.lists.specs.Asked.{OnList, Admits};
 ghost use Rattle.lists.specs.Told.{Gives};
 ghost use Rattle.rooms.specs.Rooms.{Serves, Frees, asking, filling, entering, returning, Then};
-ghost use Rattle.arc.specs.Steps.{replacing, fromFirst, Replaces, NotEmpty, Ghost, ArcMiss, Row, Under, shortened};
+ghost use Rattle.arc.specs.Inner.{replacing, fromFirst, Replaces, NotEmpty, Ghost, ArcMiss, Row, Under, shortened};
+use lists::Found;
 use meaning::Answer;
-use meaning::Found;
 use rooms::Freed;
 use rooms::as_it_is;
 use rooms::enters;
@@ -19,9 +19,10 @@ use rooms::put_out_back;
 use rooms::put_out_back_to;
 use rooms::remove_back;
 use rooms::returns;
-
-// What one slot counts in the target.
-const UNIT: u32 = 1;
+use settings::CAPACITY;
+use settings::LIST;
+use settings::UNIT;
+use settings::WORD6;
 
 // The smaller of two numbers.
 fn smaller(a: u32, b: u32) -> u32
@@ -59,8 +60,8 @@ fn grow(words: &mut [u32])
     requires { ⌜ Ready (now words) (NotEmpty 3) ⌝ }
     ensures { λ r. ⌜ Turns (now (words .entry)) (now (words .exit)) (NotEmpty 3) grown ⌝ }
 {
-    let c = lists::word(words, 1);
-    let p = lists::word(words, 6);
+    let c = lists::word(words, CAPACITY);
+    let p = lists::word(words, WORD6);
     let b1 = lists::size(words, 3);
     let b2 = lists::size(words, 4);
     let d = step_of(b1, b2);
@@ -73,7 +74,7 @@ fn shrink(words: &mut [u32])
     requires { ⌜ Ready (now words) (NotEmpty 4) ⌝ }
     ensures { λ r. ⌜ Turns (now (words .entry)) (now (words .exit)) (NotEmpty 4) shrunk ⌝ }
 {
-    let p = lists::word(words, 6);
+    let p = lists::word(words, WORD6);
     let b1 = lists::size(words, 3);
     let b2 = lists::size(words, 4);
     let d = step_of(b2, b1);
@@ -86,7 +87,7 @@ fn from_t1(words: &[u32], in_b2: bool) -> bool
     requires { ⌜ Ready (now words) Any ⌝ }
     ensures { λ r. ⌜ Says (now (words .entry)) (Gives (fromFirst in_b2) r) ⌝ }
 {
-    let p = lists::word(words, 6);
+    let p = lists::word(words, WORD6);
     let t1 = lists::size(words, 1);
     if t1 == 0 {
         return false;
@@ -144,7 +145,7 @@ fn row_room(words: &mut [u32]) -> Freed
     ensures { λ r. ⌜ Frees (now (words .entry)) (now (words .exit)) Row arcFullRow r ⌝ }
 {
     let t1 = lists::size(words, 1);
-    let c = lists::word(words, 1);
+    let c = lists::word(words, CAPACITY);
     if t1 < c {
         remove_back(words, 3);
         return replace(words, false);
@@ -157,7 +158,7 @@ fn shorten(words: &mut [u32])
     requires { ⌜ Ready (now words) Under ⌝ }
     ensures { λ r. ⌜ Turns (now (words .entry)) (now (words .exit)) Under shortened ⌝ }
 {
-    let c = lists::word(words, 1);
+    let c = lists::word(words, CAPACITY);
     let t = lists::size(words, 1) + lists::size(words, 2);
     let b = lists::size(words, 3) + lists::size(words, 4);
     if t + b != 2 * c {
@@ -181,9 +182,9 @@ fn under_room(words: &mut [u32]) -> Freed
 
 // T1+B1 = C: makes room; the page enters at the front of T1.
 fn enter_row(words: &mut [u32], page: u32) -> Answer
-    requires { ⌜ Ready (now words) (Then Row arcFullRow (Room page)) ⌝ }
+    requires { ⌜ Ready (now words) (Then Row arcFullRow (Admits page)) ⌝ }
     requires { ⌜ page < 4294967295 ⌝ }
-    ensures { λ r. ⌜ Serves (now (words .entry)) (now (words .exit)) (Then Row arcFullRow (Room page)) (filling arcFullRow (entering page 1)) r ⌝ }
+    ensures { λ r. ⌜ Serves (now (words .entry)) (now (words .exit)) (Then Row arcFullRow (Admits page)) (filling arcFullRow (entering page 1)) r ⌝ }
 {
     let f = row_room(words);
     enters(words, page, 1, f)
@@ -191,9 +192,9 @@ fn enter_row(words: &mut [u32], page: u32) -> Answer
 
 // T1+B1 under C: makes room; the page enters at the front of T1.
 fn enter_under(words: &mut [u32], page: u32) -> Answer
-    requires { ⌜ Ready (now words) (Then Under arcUnder (Room page)) ⌝ }
+    requires { ⌜ Ready (now words) (Then Under arcUnder (Admits page)) ⌝ }
     requires { ⌜ page < 4294967295 ⌝ }
-    ensures { λ r. ⌜ Serves (now (words .entry)) (now (words .exit)) (Then Under arcUnder (Room page)) (filling arcUnder (entering page 1)) r ⌝ }
+    ensures { λ r. ⌜ Serves (now (words .entry)) (now (words .exit)) (Then Under arcUnder (Admits page)) (filling arcUnder (entering page 1)) r ⌝ }
 {
     let f = under_room(words);
     enters(words, page, 1, f)
@@ -205,7 +206,7 @@ fn arc_new(words: &mut [u32], page: u32) -> Answer
     requires { ⌜ page < 4294967295 ⌝ }
     ensures { λ r. ⌜ Serves (now (words .entry)) (now (words .exit)) (ArcMiss page) (asking arc page) r ⌝ }
 {
-    let c = lists::word(words, 1);
+    let c = lists::word(words, CAPACITY);
     let n = lists::size(words, 1) + lists::size(words, 3);
     if n == c {
         return enter_row(words, page);
@@ -223,7 +224,7 @@ pub fn arc_step(words: &mut [u32], page: u32) -> Answer
     let Found::At(e, _) = f else {
         return arc_new(words, page);
     };
-    let j = lists::cell(words, e, 1);
+    let j = lists::cell(words, e, LIST);
     if j == 3 {
         return arc_b1(words, e);
     }

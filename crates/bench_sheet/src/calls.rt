@@ -18,7 +18,7 @@ use meaning::WordsFor;
 fn show_length(r: WordsFor) {
     match r {
         WordsFor::Count { words } => number(words),
-        WordsFor::Refused { number } => refused(number),
+        WordsFor::Refused(refusal) => refused(refusal.number),
     }
 }
 
@@ -26,7 +26,7 @@ fn show_length(r: WordsFor) {
 fn show_formed(r: Formed) {
     match r {
         Formed::Done => put(b" done"),
-        Formed::Refused { number } => refused(number),
+        Formed::Refused(refusal) => refused(refusal.number),
     }
 }
 
@@ -64,7 +64,7 @@ fn show_answer(a: Answer) {
             named(b" out", out);
             show_cleared(cleared);
         }
-        Answer::Refused { number } => refused(number),
+        Answer::Refused(refusal) => refused(refusal.number),
     }
 }
 
@@ -92,7 +92,7 @@ fn show_looked(r: Looked) {
         Looked::Absent => put(b" absent"),
         Looked::Held { slot } => named(b" held", slot),
         Looked::Remembered => put(b" remembered"),
-        Looked::Refused { number } => refused(number),
+        Looked::Refused(refusal) => refused(refusal.number),
     }
 }
 
@@ -121,8 +121,8 @@ fn reported(words: &[u32], list: u32, result: &mut [u32]) -> usize
     let r = policies::report(words, list, result);
     match r {
         Reported::Count { pages } => pages as usize,
-        Reported::Refused { number } => {
-            refused(number);
+        Reported::Refused(refusal) => {
+            refused(refusal.number);
             0
         }
     }
@@ -159,7 +159,7 @@ fn show_replayed(r: Replayed) {
             named(b" loads", loads);
             named(b" swaps", swaps);
         }
-        Replayed::Refused { number } => refused(number),
+        Replayed::Refused(refusal) => refused(refusal.number),
     }
 }
 
@@ -175,7 +175,7 @@ pub(crate) fn replay(words: &mut [u32], trace: &[u32]) {
 fn show_curved(r: Curved) {
     match r {
         Curved::Done => put(b" done"),
-        Curved::Refused { number } => refused(number),
+        Curved::Refused(refusal) => refused(refusal.number),
     }
 }
 
@@ -207,9 +207,9 @@ fn show_read(r: ReadText) {
             named(b" second", second);
             named(b" count", count);
         }
-        ReadText::Refused { number, line } => {
-            refused(number);
-            named(b" line", line);
+        ReadText::Refused(refusal) => {
+            refused(refusal.number);
+            named(b" line", refusal.carried);
         }
     }
 }

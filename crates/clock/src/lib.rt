@@ -1,27 +1,32 @@
 // CLOCK: its pages are on list 1 by their words, in no order; each entry's slot is its own number; word 6 is the hand.
 ghost use Prim.Native.Nat.{_<_};
 ghost use Rattle.meaning.specs.Clock.{advance, clockLoad, clock};
-ghost use Rattle.meaning.specs.Places.{Ready, Turns, Says};
-ghost use Rattle.meaning.specs.Kept.{Clock};
-ghost use Rattle.lists.specs.Asked.{Room};
+ghost use Rattle.invariants.specs.Places.{Ready, Turns, Says};
+ghost use Rattle.invariants.specs.Assumed.{Clock};
+ghost use Rattle.theorems.specs.Sweep.{turned};
+ghost use Rattle.lists.specs.Asked.{Admits};
 ghost use Rattle.lists.specs.Told.{Gives};
 ghost use Rattle.rooms.specs.Rooms.{Serves, asking, filling, given, Then};
-ghost use Rattle.clock.specs.Steps.{atMark, turned, Sweeps, Handed, AtHand, handOut, Seats, swapping, sweeping, ClockMiss, ClockFull};
+ghost use Rattle.clock.specs.Inner.{atMark, Sweeps, Handed, AtHand, handOut, Seats, swapping, sweeping, ClockMiss, ClockFull};
+use lists::Found;
 use meaning::Answer;
-use meaning::Found;
 use rooms::Freed;
 use rooms::answer;
 use rooms::as_it_is;
 use rooms::full;
 use rooms::put_out;
+use settings::CAPACITY;
+use settings::MARK;
+use settings::SLOT;
+use settings::WORD6;
 
 // Advances the hand: C-1 goes to 0.
 fn advance(words: &mut [u32])
     requires { ⌜ Ready (now words) Handed ⌝ }
     ensures { λ r. ⌜ Turns (now (words .entry)) (now (words .exit)) Handed advance ⌝ }
 {
-    let c = lists::word(words, 1);
-    let h = lists::word(words, 6) + 1;
+    let c = lists::word(words, CAPACITY);
+    let h = lists::word(words, WORD6) + 1;
     if h == c {
         lists::set_word6(words, 0);
         return;
@@ -34,8 +39,8 @@ fn marked(words: &[u32]) -> bool
     requires { ⌜ Ready (now words) Clock ⌝ }
     ensures { λ r. ⌜ Says (now (words .entry)) (Gives atMark r) ⌝ }
 {
-    let h = lists::word(words, 6);
-    let v = lists::cell(words, h, 6);
+    let h = lists::word(words, WORD6);
+    let v = lists::cell(words, h, MARK);
     v != 0
 }
 
@@ -44,7 +49,7 @@ fn turn(words: &mut [u32])
     requires { ⌜ Ready (now words) Clock ⌝ }
     ensures { λ r. ⌜ Turns (now (words .entry)) (now (words .exit)) Clock turned ⌝ }
 {
-    let h = lists::word(words, 6);
+    let h = lists::word(words, WORD6);
     lists::set_mark(words, h, 0);
     advance(words);
 }
@@ -54,7 +59,7 @@ fn sweep(words: &mut [u32]) -> u32
     requires { ⌜ Ready (now words) Clock ⌝ }
     ensures { λ r. ⌜ Sweeps (now (words .entry)) (now (words .exit)) r ⌝ }
 {
-    let c = lists::word(words, 1);
+    let c = lists::word(words, CAPACITY);
     let mut n = 0;
     while n < c {
         if !marked(words) {
@@ -83,7 +88,7 @@ fn swap_at_hand(words: &mut [u32], page: u32, cleared: u32) -> Answer
     requires { ⌜ page < 4294967295 ⌝ }
     ensures { λ r. ⌜ Serves (now (words .entry)) (now (words .exit)) (Then AtHand handOut (Seats page)) (filling handOut (swapping page cleared)) r ⌝ }
 {
-    let h = lists::word(words, 6);
+    let h = lists::word(words, WORD6);
     let f = put_out(words, h);
     swap_in(words, page, cleared, f)
 }
@@ -100,9 +105,9 @@ fn clock_full(words: &mut [u32], page: u32) -> Answer
 
 // Free slot: loads there, mark 0; the hand stays.
 fn clock_load(words: &mut [u32], page: u32) -> Answer
-    requires { ⌜ Ready (now words) (Room page) ⌝ }
+    requires { ⌜ Ready (now words) (Admits page) ⌝ }
     requires { ⌜ page < 4294967295 ⌝ }
-    ensures { λ r. ⌜ Serves (now (words .entry)) (now (words .exit)) (Room page) (asking clockLoad page) r ⌝ }
+    ensures { λ r. ⌜ Serves (now (words .entry)) (now (words .exit)) (Admits page) (asking clockLoad page) r ⌝ }
 {
     let f = as_it_is(words);
     lists::enter_seat(words, page, f.slot);
@@ -131,7 +136,7 @@ pub fn clock_step(words: &mut [u32], page: u32) -> Answer
     let Found::At(e, _) = f else {
         return clock_miss(words, page);
     };
-    let s = lists::cell(words, e, 2);
+    let s = lists::cell(words, e, SLOT);
     lists::set_mark(words, e, 1);
     Answer::Hit {
         slot: s,

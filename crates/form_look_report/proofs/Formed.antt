@@ -1,5 +1,4 @@
 -- The answers of `form` and `words_for`.
--- Assumes nothing.
 use Prim.Native.Nat.{ℕ, _≤_}
 use mathlib.Core.Path.{_≡_, sym, ap, _∙_}
 use mathlib.Core.Bool.{true, false}
@@ -10,23 +9,24 @@ use borrow.Author.Tests.{eq-eqb, ne-eqb}
 use Rattle.meaning.specs.declared.Formed.the-variants as formed
 use Rattle.meaning.specs.declared.WordsFor.the-variants as long
 use Rattle.meaning.specs.Layout.{four, entriesOf, bitsOf, lengthFor, lengthOf, settingsRefusal}
-use Rattle.meaning.specs.Calls.{refused, gave, refuse, refusalOf, formed, wordsFor}
+use Rattle.meaning.specs.Calls.{plain, refused, gave, refuse, refusalOf, formed, wordsFor}
+use Rattle.meaning.proofs.Injective.{asStruct}
 use Rattle.lists.specs.Written.{Fits, freshWords}
-use Rattle.meaning.proofs.Accepted.{few-entries}
+use Rattle.invariants.proofs.Accepted.{few-entries}
 use Rattle.form_look_report.specs.Forms.{FormedAs, LongAs}
 
 module _ (p c f s : ℕ) {n : ℕ} (e : n ≡ settingsRefusal p c f s) where
   -- The settings are refused.
-  pub form-refuses : (ws : List ℕ) → (n ≡ 0 → ⊥) → FormedAs p c f s ws (formed.Refused n) ws
+  pub form-refuses : (ws : List ℕ) → (n ≡ 0 → ⊥) → FormedAs p c f s ws (formed.Refused (asStruct (plain n))) ws
   unfolding formed refuse refusalOf
   form-refuses ws z = let t : eqb (settingsRefusal p c f s) 0 ≡ false = ne-eqb _ 0 (λ y. z (e ∙ y)) in
-      record { answer = simp t (ap refused e); memory = simp t }
+      record { answer = simp t (ap (λ (k : ℕ). refused (plain k)) e); memory = simp t }
 
   -- The settings are refused.
-  pub length-refuses : (n ≡ 0 → ⊥) → LongAs p c f s (long.Refused n)
+  pub length-refuses : (n ≡ 0 → ⊥) → LongAs p c f s (long.Refused (asStruct (plain n)))
   unfolding wordsFor refusalOf
   length-refuses z = let t : eqb (settingsRefusal p c f s) 0 ≡ false = ne-eqb _ 0 (λ y. z (e ∙ y)) in
-      record { answer = simp t (ap refused e) }
+      record { answer = simp t (ap (λ (k : ℕ). refused (plain k)) e) }
 
   module _ {E : ℕ} (z : n ≡ 0) (g : E ≡ entriesOf p c s) where
     none : eqb (settingsRefusal p c f s) 0 ≡ true
@@ -47,7 +47,7 @@ module _ (p c f s : ℕ) {n : ℕ} (e : n ≡ settingsRefusal p c f s) where
       length-gives = record { answer = simp none (ap gave long-is) }
 
       -- The lent words are too few or too many.
-      pub form-misfits : (ws : List ℕ) → (length ws ≡ l → ⊥) → FormedAs p c f s ws (formed.Refused 4) ws
+      pub form-misfits : (ws : List ℕ) → (length ws ≡ l → ⊥) → FormedAs p c f s ws (formed.Refused (asStruct (plain 4))) ws
       unfolding formed refuse refusalOf
       form-misfits ws y = let t : eqb (length ws) (lengthOf (four p c f s)) ≡ false = ne-eqb _ _ (λ x. y (x ∙ sym long-is)) in
           record { answer = simp (none, t); memory = simp (none, t) }

@@ -1,5 +1,4 @@
 -- The answers of `look`.
--- Assumes nothing.
 use Prim.Native.Nat.{ℕ, _+_, _*_, _≤_, _<_}
 use mathlib.Core.Path.{_≡_, refl, sym, ap, _∙_, subst}
 use mathlib.Core.Bool.{true, false}
@@ -10,17 +9,17 @@ use lib.ListN.{length}
 use borrow.Author.Tests.{eq-eqb, ne-eqb}
 use Rattle.meaning.specs.declared.Looked.{Looked}
 use Rattle.meaning.specs.declared.Looked.the-variants as look
-use Rattle.meaning.specs.declared.Found.{Found}
-use Rattle.meaning.specs.declared.Found.the-variants.{At, Nothing}
+use Rattle.index.specs.declared.Found.{Found}
+use Rattle.index.specs.declared.Found.the-variants.{At, Nothing}
 use Rattle.meaning.specs.Base.{if_then_else_}
 use Rattle.meaning.specs.Neighbours.{NONE}
-use Rattle.meaning.specs.Layout.{isHeld, cellAt}
-use Rattle.meaning.specs.Mem.{Mem, word, decode, entryOf, listOn}
-use Rattle.meaning.specs.Places.{cell, list, slot, Repr, Says}
+use Rattle.meaning.specs.Layout.{isHeld, cellAt, listCol, slotCol}
+use Rattle.meaning.specs.Mem.{Mem, word, decode, entryOf, listOn, entryCount}
+use Rattle.invariants.specs.Places.{cell, list, slot, Repr, Says}
 use Rattle.meaning.specs.Rules.{sound}
-use Rattle.meaning.specs.Whole.{Whole}
-use Rattle.meaning.specs.Calls.{gave, Sight, heldIn, absent, remembered, onPage, sight, looked}
-use Rattle.meaning.proofs.Lists.{split}
+use Rattle.invariants.specs.Whole.{Whole}
+use Rattle.meaning.specs.Calls.{plain, gave, Sight, heldIn, absent, remembered, onPage, sight, looked}
+use Rattle.meaning.proofs.Injective.{asStruct}
 use Rattle.lists.specs.Told.{Answers}
 use Rattle.lists.proofs.Finding.{FoundAt, found-at, found-none}
 use Rattle.sound.proofs.Door.{door}
@@ -28,12 +27,12 @@ use Rattle.form_look_report.specs.Looks.{SeenAs, LookedAs}
 
 module _ (ws : List ℕ) (page : ℕ) where
   -- The words are not a sound directory.
-  pub look-unsound : sound ws ≡ false → LookedAs ws page (look.Refused 5)
+  pub look-unsound : sound ws ≡ false → LookedAs ws page (look.Refused (asStruct (plain 5)))
   unfolding looked onPage
   look-unsound s = record { answer = simp s }
 
   -- The page is NONE.
-  pub look-none : sound ws ≡ true → page ≡ NONE → LookedAs ws page (look.Refused 6)
+  pub look-none : sound ws ≡ true → page ≡ NONE → LookedAs ws page (look.Refused (asStruct (plain 6)))
   unfolding looked onPage
   look-none s z = record { answer = simp (s, eq-eqb page NONE z) }
 
@@ -41,15 +40,6 @@ module _ (ws : List ℕ) (page : ℕ) where
   pub look-sees : {r : Looked} → sound ws ≡ true → (page ≡ NONE → ⊥) → SeenAs ws page r → LookedAs ws page r
   unfolding looked onPage
   look-sees s z a = record { answer = a .answer ∙ sym (simp (s, ne-eqb page NONE z)) }
-
--- the lists of held pages, and those of ghosts
-held-low : (j : ℕ) → (j ≡ 0 → ⊥) → j < 3 → isHeld j ≡ true
-unfolding isHeld
-held-low j z h = split j 1 (λ e t. simp t) (λ e t. simp (t, eq-eqb j 2 (omega (arith, e, z))))
-
-ghost-high : (j : ℕ) → 3 ≤ j → isHeld j ≡ false
-unfolding isHeld
-ghost-high j h = simp (ne-eqb j 1 (omega arith), ne-eqb j 2 (omega arith))
 
 -- what is seen of a page whose entry is e
 sightAt : Mem → ℕ → Sight
@@ -73,8 +63,8 @@ module _ (ws : List ℕ) (page : ℕ) (s : sound ws ≡ true) (low : page < NONE
   pub seen-absent : r ≡ Nothing → SeenAs ws page look.Absent
   unfolding sightAt isHeld
   seen-absent z =
-      let e = found-none m (W .stocked .indexed) low (subst (λ (x : Found). Answers page x m) z (g .of m R)) .entry in
-      let free : m .lists (entryOf m page) ≡ 0 = ap (m .lists) e ∙ W .stocked .indexed .canonical .lists (m .tops 2) (omega arith) in
+      let e = found-none m (W .stocked .seated .indexed) low (subst (λ (x : Found). Answers page x m) z (g .of m R)) .entry in
+      let free : m .lists (entryOf m page) ≡ 0 = ap (m .lists) e ∙ W .stocked .seated .indexed .canonical .lists (entryCount m) (omega arith) in
       record { answer = ap gave (sym (sight-is m page ∙ simp free)) }
 
   module _ {e a : ℕ} (z : r ≡ At e a) where
@@ -85,7 +75,7 @@ module _ (ws : List ℕ) (page : ℕ) (s : sound ws ≡ true) (low : page < NONE
     pub seen-room : 16 + 8 * e + 8 ≤ length ws
     seen-room = omega (arith, at .hung .within, R .holds .size)
 
-    module _ {j : ℕ} (ej : j ≡ word ws (cellAt e 1)) where
+    module _ {j : ℕ} (ej : j ≡ word ws (cellAt e listCol)) where
       on : j ≡ m .lists e
       on = ej ∙ R .holds .at (cell list e) (at .hung .within)
 
@@ -96,15 +86,15 @@ module _ (ws : List ℕ) (page : ℕ) (s : sound ws ≡ true) (low : page < NONE
       there = sight-is m page ∙ ap (sightAt m) (at .entry)
 
       -- The page is held.
-      pub seen-held : {x : ℕ} → j < 3 → x ≡ word ws (cellAt e 2) → SeenAs ws page (look.Held x)
+      pub seen-held : {x : ℕ} → isHeld j ≡ true → x ≡ word ws (cellAt e slotCol) → SeenAs ws page (look.Held x)
       unfolding sightAt
       seen-held h ex =
-          let y : isHeld (m .lists e) ≡ true = ap isHeld (sym on) ∙ held-low j used h in
+          let y : isHeld (m .lists e) ≡ true = ap isHeld (sym on) ∙ h in
           record { answer = ap (λ (v : ℕ). gave (heldIn v)) (ex ∙ R .holds .at (cell slot e) (at .hung .within)) ∙ ap gave (sym (there ∙ simp y)) }
 
       -- The page is a ghost.
-      pub seen-ghost : 3 ≤ j → SeenAs ws page look.Remembered
+      pub seen-ghost : isHeld j ≡ false → SeenAs ws page look.Remembered
       unfolding sightAt
       seen-ghost h =
-          let y : isHeld (m .lists e) ≡ false = ap isHeld (sym on) ∙ ghost-high j h in
+          let y : isHeld (m .lists e) ≡ false = ap isHeld (sym on) ∙ h in
           record { answer = ap gave (sym (there ∙ simp (y, ne-eqb (m .lists e) 0 (λ y. used (on ∙ y))))) }

@@ -1,5 +1,4 @@
 -- The answers of `report`.
--- Assumes nothing.
 use Prim.Native.Nat.{ℕ, suc, _+_, _*_, _-_, _≤_, _<_}
 use mathlib.Core.Path.{_≡_, sym, ap, _∙_}
 use mathlib.Core.Bool.{Bool, true, false, not}
@@ -8,21 +7,22 @@ use native.Mathlib.Omega.{arith}
 use native.Mathlib.Numerals.{add-one}
 use lib.ListN.{length, drop, set, length-map}
 use lib.Seq.{sets, sets-eq}
-use borrow.Author.Tests.{eq-eqb, ne-eqb, eqb-true, lt-ltb, le-ltb}
+use borrow.Author.Tests.{eq-eqb, eqb-true, lt-ltb, le-ltb, not-true, not-false}
 use Rattle.meaning.specs.declared.Reported.the-variants as report
 use Rattle.meaning.specs.Base.{first, series}
 use Rattle.meaning.specs.Layout.{isClock, isHeld, isList}
-use Rattle.meaning.specs.Mem.{Mem, word, decode, size, held, sits}
-use Rattle.meaning.specs.Places.{top, cell, page, Repr, Says}
+use Rattle.meaning.specs.Mem.{Mem, decode, size, held, sits, entryCount, policyIn, policyOf}
+use Rattle.invariants.specs.Places.{top, cell, page, Repr, Says}
 use Rattle.meaning.specs.Rules.{pageIn, sound}
-use Rattle.meaning.specs.Whole.{Whole}
-use Rattle.meaning.specs.Calls.{gave, refuse, over, pageInSlot, pagesOn, reported}
-use Rattle.meaning.proofs.Numbers.{first-hit}
-use Rattle.meaning.proofs.Unique.{below, order-read}
+use Rattle.invariants.specs.Whole.{Whole}
+use Rattle.meaning.proofs.Injective.{asStruct}
+use Rattle.meaning.specs.Calls.{plain, gave, refuse, over, pageInSlot, pagesOn, reported}
+use Rattle.invariants.proofs.Numbers.{first-hit}
+use Rattle.invariants.proofs.Unique.{below, order-read}
 use Rattle.lists.specs.Told.{Gives, GivesOf, Shorter, Copied}
-use Rattle.meaning.proofs.Numbered.{held-used}
-use Rattle.meaning.proofs.Series.{length-series, series-same}
-use Rattle.meaning.proofs.Tests.{and-left, and-right, both, yes, no}
+use Rattle.invariants.proofs.Numbered.{held-used}
+use Rattle.invariants.proofs.Series.{length-series, series-same}
+use Rattle.invariants.proofs.Tests.{and-left, and-right, both, yes, no}
 use Rattle.sound.proofs.Door.{door}
 use Rattle.form_look_report.specs.Reports.{pagesOf, ReportedAs}
 
@@ -59,26 +59,26 @@ module _ (ws : List ℕ) (s : sound ws ≡ true) where
   W = door ws s .1
 
   -- the policy is in word 0
-  policy-is : word ws 0 ≡ m .tops 0
+  policy-is : policyIn ws ≡ policyOf m
   policy-is = R .holds .at (top 0) (omega arith)
 
-  module _ {p : ℕ} (ep : p ≡ word ws 0) (c : p ≡ 2) where
-    clock : isClock (m .tops 0) ≡ true
-    clock = eq-eqb (m .tops 0) 2 (sym policy-is ∙ sym ep ∙ c)
+  module _ {p : ℕ} {b : Bool} (ep : p ≡ policyIn ws) (eb : b ≡ not (isClock p)) (c : b ≡ false) where
+    clock : isClock (policyOf m) ≡ true
+    clock = ap (λ (q : ℕ). isClock q) (sym policy-is ∙ sym ep) ∙ not-false (isClock p) (sym eb ∙ c)
 
     -- CLOCK's held entry s is the one in slot s
     seat-own : (i : ℕ) → isHeld (m .lists i) ≡ true → m .slots i ≡ i
     seat-own i h = W .clock clock .own i (held-used _ h)
 
-    seat-is : (x : ℕ) → x < held m → (first (sits m x) 0 (m .tops 2) ≡ x) × (x < m .tops 2)
+    seat-is : (x : ℕ) → x < held m → (first (sits m x) 0 (entryCount m) ≡ x) × (x < entryCount m)
     seat-is x l =
-        let a = W .stocked .slotted .at x in
-        let t = W .stocked .slotted .there x (lt-ltb x (held m) l) in
+        let a = W .stocked .seated .slotted .at x in
+        let t = W .stocked .seated .slotted .there x (lt-ltb x (held m) l) in
         let z : a ≡ x = sym (seat-own a (t .0)) ∙ t .1 in
         let h : isHeld (m .lists x) ≡ true = ap (λ (i : ℕ). isHeld (m .lists i)) (sym z) ∙ t .0 in
-        let b : x < m .tops 2 = below x (m .tops 2) (λ g. g) (λ g. absurd (held-used _ h (W .stocked .indexed .canonical .lists x g))) in
-        let k = first-hit (sits m x) 0 (m .tops 2) x (omega arith) (omega arith) (both h (eq-eqb _ _ (seat-own x h))) .0 in
-        let y = first (sits m x) 0 (m .tops 2) in
+        let b : x < entryCount m = below x (entryCount m) (λ g. g) (λ g. absurd (held-used _ h (W .stocked .seated .indexed .canonical .lists x g))) in
+        let k = first-hit (sits m x) 0 (entryCount m) x (omega arith) (omega arith) (both h (eq-eqb _ _ (seat-own x h))) .0 in
+        let y = first (sits m x) 0 (entryCount m) in
         (sym (seat-own y (and-left _ _ k)) ∙ eqb-true _ _ (and-right (isHeld (m .lists y)) _ k), b)
 
     clock-pages : (j : ℕ) → pagesOn m j ≡ series (pageIn ws) (held m) 0
@@ -104,10 +104,13 @@ module _ (ws : List ℕ) (s : sound ws ≡ true) where
       pub clock-written : (result : List ℕ) {result′ : List ℕ} → result′ ≡ over (series (pageIn ws) n 0) result → result′ ≡ over (pagesOf ws j) result
       clock-written result w = w ∙ ap (λ (L : List ℕ). over L result) (ap (λ (k : ℕ). series (pageIn ws) k 0) all ∙ sym (clock-pages j))
 
-  module _ {p : ℕ} (ep : p ≡ word ws 0) (c : p ≡ 2 → ⊥) (j : ℕ) where
+  module _ {p : ℕ} {b : Bool} (ep : p ≡ policyIn ws) (eb : b ≡ not (isClock p)) (c : b ≡ true) (j : ℕ) where
+    ordered : isClock (policyOf m) ≡ false
+    ordered = ap (λ (q : ℕ). isClock q) (sym policy-is ∙ sym ep) ∙ not-true (isClock p) (sym eb ∙ c)
+
     listed-pages : pagesOn m j ≡ map (m .pages) (m .order j)
     unfolding pagesOn
-    listed-pages = simp (ne-eqb (m .tops 0) 2 (λ z. c (ep ∙ policy-is ∙ z)))
+    listed-pages = simp ordered
 
     -- For any other policy the pages are counted along the list.
     pub listed-count : {n : ℕ} → Says ws (GivesOf size j n) → n ≡ length (pagesOf ws j)
@@ -131,22 +134,22 @@ module _ (ws : List ℕ) (s : sound ws ≡ true) where
 
 module _ (ws : List ℕ) (j : ℕ) (buffer : List ℕ) where
   -- The words are not a sound directory.
-  pub report-unsound : sound ws ≡ false → ReportedAs ws j buffer (report.Refused 5) buffer
+  pub report-unsound : sound ws ≡ false → ReportedAs ws j buffer (report.Refused (asStruct (plain 5))) buffer
   unfolding reported refuse
   report-unsound s = record { answer = simp s; memory = simp s }
 
-  module _ (s : sound ws ≡ true) {p : ℕ} {b : Bool} (ep : p ≡ word ws 0) (eb : b ≡ isList p j) where
-    uses : b ≡ isList (decode ws .tops 0) j
+  module _ (s : sound ws ≡ true) {p : ℕ} {b : Bool} (ep : p ≡ policyIn ws) (eb : b ≡ isList p j) where
+    uses : b ≡ isList (policyOf (decode ws)) j
     uses = eb ∙ ap (λ (q : ℕ). isList q j) (ep ∙ policy-is ws s)
 
     -- The list is none of the policy's.
-    pub report-unlisted : not b ≡ true → ReportedAs ws j buffer (report.Refused 9) buffer
+    pub report-unlisted : not b ≡ true → ReportedAs ws j buffer (report.Refused (asStruct (plain 9))) buffer
     unfolding reported refuse
     report-unlisted l = let u = no uses l in record { answer = simp (s, u); memory = simp (s, u) }
 
     module _ (l : not b ≡ false) {n : ℕ} (en : n ≡ length (pagesOf ws j)) where
       -- The buffer is shorter than the list.
-      pub report-short : length buffer < n → ReportedAs ws j buffer (report.Refused 8) buffer
+      pub report-short : length buffer < n → ReportedAs ws j buffer (report.Refused (asStruct (plain 8))) buffer
       unfolding reported refuse
       report-short h =
           let u = yes uses l in let t = lt-ltb (length buffer) (length (pagesOf ws j)) (rw en at h) in

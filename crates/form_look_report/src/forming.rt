@@ -2,11 +2,13 @@
 ghost use Rattle.form_look_report.specs.Forms.{FormedAs, LongAs};
 use lists::form_fresh;
 use meaning::Formed;
+use meaning::Refusal;
+use meaning::WRONG_LENGTH;
 use meaning::WordsFor;
-use sound::bits_of;
-use sound::entries_of;
-use sound::length_for;
-use sound::settings_refusal;
+use settings::bits_of;
+use settings::entries_of;
+use settings::length_for;
+use settings::settings_refusal;
 
 // Writes the fresh directory of settings over whatever was there; a refusal, 1 to 4, changes no word.
 pub fn form(policy: u32, capacity: u32, first: u32, second: u32, words: &mut [u32]) -> Formed
@@ -14,11 +16,14 @@ pub fn form(policy: u32, capacity: u32, first: u32, second: u32, words: &mut [u3
 {
     let refusal = settings_refusal(policy, capacity, first, second);
     if refusal != 0 {
-        return Formed::Refused { number: refusal };
+        return Formed::Refused(Refusal {
+            number: refusal,
+            carried: 0,
+        });
     }
     let entries = entries_of(policy, capacity, second);
     if words.len() != length_for(entries) {
-        return Formed::Refused { number: 4 };
+        return Formed::Refused(WRONG_LENGTH);
     }
     let bits = bits_of(entries);
     form_fresh(
@@ -37,9 +42,9 @@ pub fn form(policy: u32, capacity: u32, first: u32, second: u32, words: &mut [u3
 pub fn words_for(policy: u32, capacity: u32, first: u32, second: u32) -> WordsFor
     ensures { λ r. ⌜ LongAs policy capacity first second r ⌝ }
 {
-    let refusal = settings_refusal(policy, capacity, first, second);
-    if refusal != 0 {
-        return WordsFor::Refused { number: refusal };
+    let number = settings_refusal(policy, capacity, first, second);
+    if number != 0 {
+        return WordsFor::Refused(Refusal { number, carried: 0 });
     }
     let n = length_for(entries_of(policy, capacity, second));
     WordsFor::Count { words: n as u32 }

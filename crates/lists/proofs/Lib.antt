@@ -1,13 +1,2 @@
-pub mod Stores
-pub mod Steps
-pub mod Plain
-pub mod Leaving
-pub mod Linking
-pub mod Hanging
-pub mod Walks
-pub mod Copying
-pub mod Scans
 pub mod Finding
-pub mod Filling
 pub mod Settled
-pub mod Wiping

@@ -1,12 +1,11 @@
 -- A directory settles every word, and words settle the directory.
--- Assumes nothing.
 use Prim.Native.Nat.{ℕ}
 use mathlib.Core.Path.{_≡_, sym, _∙_}
 use mathlib.Core.List.{List}
 use Rattle.meaning.specs.Mem.{Mem}
-use Rattle.meaning.specs.Places.{Repr}
-use Rattle.meaning.specs.Shape.{Canonical}
-use Rattle.meaning.proofs.Trip.{decode-repr, repr-words}
+use Rattle.invariants.specs.Places.{Repr}
+use Rattle.invariants.specs.Shape.{Canonical}
+use Rattle.invariants.proofs.Trip.{decode-repr, repr-words}
 
 -- two slices that stand for one directory are equal
 pub words-settled : (ws ws′ : List ℕ) (m : Mem) → Repr ws m → Repr ws′ m → ws ≡ ws′

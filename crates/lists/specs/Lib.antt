@@ -1,3 +1,3 @@
-pub mod Written
 pub mod Asked
 pub mod Told
+pub mod Written

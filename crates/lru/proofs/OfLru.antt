@@ -1,20 +1,19 @@
 -- LRU's step, from its parts.
--- Assumes nothing.
 use Prim.Native.Nat.{ℕ, _<_}
-use mathlib.Core.Path.{_≡_, sym, _∙_}
+use mathlib.Core.Path.{_≡_, _∙_}
 use mathlib.Core.List.{List}
 use native.Mathlib.Omega.{arith}
 use borrow.Author.Tests.{eq-eqb, ne-eqb}
 use Rattle.meaning.specs.declared.Answer.{Answer}
-use Rattle.meaning.specs.declared.Found.{Found}
-use Rattle.meaning.specs.declared.Found.the-variants.{At, Nothing}
+use Rattle.index.specs.declared.Found.{Found}
+use Rattle.index.specs.declared.Found.the-variants.{At, Nothing}
 use Rattle.meaning.specs.Neighbours.{NONE}
-use Rattle.meaning.specs.Mem.{Mem, size, listOn}
+use Rattle.meaning.specs.Mem.{Mem, listOn}
 use Rattle.meaning.specs.Lru.{lruRoom, lru}
-use Rattle.meaning.specs.Places.{Repr, Ready, Says}
-use Rattle.meaning.specs.Kept.{Lru}
+use Rattle.invariants.specs.Places.{Repr, Ready, Says}
+use Rattle.invariants.specs.Assumed.{Lru}
 use Rattle.theorems.proofs.Rooms.{list-none}
-use Rattle.theorems.proofs.Counts.{unlisted}
+use Rattle.theorems.proofs.Lru.{none-on}
 use Rattle.lists.specs.Asked.{OnList}
 use Rattle.lists.specs.Asked as asked
 use Rattle.lists.specs.Told.{Answers}
@@ -28,22 +27,22 @@ lru-lined m L = lined (L .proper)
 
 module _ {ws : List ℕ} {p : ℕ} {f : Found} (hp : p < NONE) (a : Says ws (Answers p f)) where
   -- a page that is not held
-  space : f ≡ Nothing → (m : Mem) → Repr ws m → Lru m → Then (Evicts 1) lruRoom (asked.Room p) m
+  space : f ≡ Nothing → (m : Mem) → Repr ws m → Lru m → Then (Evicts 1) lruRoom (asked.Admits p) m
   space z m R L =
-      let none : (x : ℕ) → (x ≡ 0 → ⊥) → (x ≡ 1 → ⊥) → size m x ≡ 0 = λ x nz d. unlisted m (L .proper .indexed) (L .proper .ordered) x nz (λ i y. d (sym y ∙ L .one i (λ w. nz (sym y ∙ w)))) in
+      let none = none-on m L in
       lru-space m (L .proper) (L .all) (none 3 (omega arith) (omega arith), none 4 (omega arith) (omega arith)) (omega (arith, none 2 (omega arith) (omega arith), L .some)) p hp
-      (found-nothing a z hp m R (L .proper .indexed) .absent)
+      (found-nothing a z hp m R (L .proper .seated .indexed) .absent)
 
   -- room can be made for it
-  pub lru-missing : f ≡ Nothing → Ready ws Lru → Ready ws (Then (Evicts 1) lruRoom (asked.Room p))
+  pub lru-missing : f ≡ Nothing → Ready ws Lru → Ready ws (Then (Evicts 1) lruRoom (asked.Admits p))
   lru-missing z o = record { mem = o .mem; repr = o .repr; meets = space z (o .mem) (o .repr) (o .meets) }
 
   -- and it is served
-  pub lru-missed : {ws′ : List ℕ} {r : Answer} → f ≡ Nothing → Serves ws ws′ (Then (Evicts 1) lruRoom (asked.Room p)) (filling lruRoom (entering p 1)) r → Serves ws ws′ Lru (asking lru p) r
+  pub lru-missed : {ws′ : List ℕ} {r : Answer} → f ≡ Nothing → Serves ws ws′ (Then (Evicts 1) lruRoom (asked.Admits p)) (filling lruRoom (entering p 1)) r → Serves ws ws′ Lru (asking lru p) r
   unfolding asking filling entering lru
   lru-missed z S = serves-as S (λ m R L. (
     space z m R L,
-    simp (ne-eqb (listOn m p) 1 (λ y. omega (arith, y, list-none m (L .proper .indexed) p hp (found-nothing a z hp m R (L .proper .indexed) .absent)))),
+    simp (ne-eqb (listOn m p) 1 (λ y. omega (arith, y, list-none m (L .proper .seated .indexed) p hp (found-nothing a z hp m R (L .proper .seated .indexed) .absent)))),
   ))
 
   -- a page that is

@@ -1,11 +1,11 @@
 // LRU, on list 1.
 ghost use Prim.Native.Nat.{_<_};
 ghost use Rattle.meaning.specs.Lru.{lru};
-ghost use Rattle.meaning.specs.Places.{Ready};
-ghost use Rattle.meaning.specs.Kept.{Lru};
+ghost use Rattle.invariants.specs.Places.{Ready};
+ghost use Rattle.invariants.specs.Assumed.{Lru};
 ghost use Rattle.rooms.specs.Rooms.{Serves, asking};
+use lists::Found;
 use meaning::Answer;
-use meaning::Found;
 use rooms::enter_lru;
 use rooms::hit_front;
 

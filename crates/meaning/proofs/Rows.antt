@@ -1,5 +1,4 @@
 -- Document 01, "Bench sheet": the rows marked *, rows that tell its slips apart, and the figures that it names, as one statement over a list of rows.
--- Assumes nothing.
 use Prim.Native.Nat.{ℕ, _+_}
 use mathlib.Core.Bool.{Bool, true, false, _&&_}
 use mathlib.Core.List.{List, [], _∷_, _++_, map}
@@ -11,8 +10,8 @@ use Rattle.meaning.specs.Layout.{Settings, four, bucketOf, lengthOf}
 use Rattle.meaning.specs.Mem.{word, words, decode}
 use Rattle.meaning.specs.Room.{Kind, hit, loaded, swapped, Reply}
 use Rattle.meaning.specs.Rules.{sound}
-use Rattle.meaning.specs.Calls.{Said, refused, gave, formed, refusalOf, requested, reported, replayed, Counts, curved}
-use Rattle.meaning.specs.Text.{textOf, Reading, unread, accepted, readText}
+use Rattle.meaning.specs.Calls.{Said, refused, gave, formed, refusalOf, reported, replayed, Counts, curved, Outcome, Event, ask as asks, happens, run}
+use Rattle.meaning.specs.Text.{textOf, Contents, readText}
 use Rattle.meaning.specs.Program.{openProgram, programmed, fiveLines}
 
 -- A line of a row's script: pages asked for, or what is then seen.
@@ -123,13 +122,17 @@ rows =
 
 -- ── When a row holds ──
 
--- A directory's first words, its words so far, the pages asked for so far and the answers so far, both latest first, and whether every directory on the way was sound and came back from decode.
-pub record State : Type 0 where
-  pub start : List ℕ
-  pub left : List ℕ
+-- Of a row so far: the pages asked for and the answers, both latest first, and whether every directory on the way was sound and came back from decode.
+pub record Noted : Type 0 where
   pub asked : List ℕ
   pub said : List (Said Reply)
   pub right : Bool
+
+-- A directory's first words, its words so far, and what was noted on the way.
+pub record State : Type 0 where
+  pub start : List ℕ
+  pub left : List ℕ
+  pub noted : Noted
 
 abbrev pub kindNo : Kind → ℕ
 kindNo hit = 1
@@ -137,7 +140,7 @@ kindNo loaded = 2
 kindNo swapped = 3
 
 abbrev pub sameReply : Reply → Said Reply → Bool
-sameReply a (refused n) = false
+sameReply a (refused r) = false
 sameReply a (gave b) = eqb (kindNo (a .kind)) (kindNo (b .kind)) && eqb (a .slot) (b .slot) && eqb (a .out) (b .out) && eqb (a .cleared) (b .cleared)
 
 -- the replies that were expected, against the latest
@@ -146,53 +149,62 @@ latest [] said = true
 latest (r ∷ rs) [] = false
 latest (r ∷ rs) (s ∷ ss) = sameReply r s && latest rs ss
 
-abbrev pub turned : {A : Type 0} → List A → List A → List A
-turned [] acc = acc
-turned (r ∷ rs) acc = turned rs (r ∷ acc)
+abbrev pub reversed : {A : Type 0} → List A → List A → List A
+reversed [] acc = acc
+reversed (r ∷ rs) acc = reversed rs (r ∷ acc)
 
 -- sound, and given back by decode
 abbrev pub wellKept : List ℕ → Bool
 wellKept ws = sound ws && same (words (decode ws)) ws
 
+abbrev pub noting : Noted → Event → Outcome Reply (List ℕ) → Noted
+noting n (asks p) o = record { asked = p ∷ n .asked; said = o .said ∷ n .said; right = n .right && wellKept (o .left) }
+
 abbrev pub asking : State → List ℕ → State
-asking st [] = st
-asking st (p ∷ ps) =
-    let o = requested (st .left) p in
-    let now : State = record { start = st .start; left = o .left; asked = p ∷ st .asked; said = o .said ∷ st .said; right = st .right && wellKept (o .left) } in
-    asking now ps
+asking st ps =
+    let r = run happens noting (st .noted) (st .left) (map asks ps) in
+    record { start = st .start; left = r .left; noted = r .gathered }
 
 abbrev pub gaveCounts : ℕ → ℕ → ℕ → Said Counts → Bool
-gaveCounts h l s (refused n) = false
+gaveCounts h l s (refused r) = false
 gaveCounts h l s (gave c) = eqb (c .hits) h && eqb (c .loads) l && eqb (c .swaps) s
 
--- a report gives these pages, and leaves the last word of the buffer
+abbrev pub gaveNumber : ℕ → Said ℕ → Bool
+gaveNumber n (refused r) = false
+gaveNumber n (gave k) = eqb k n
+
+abbrev pub wasDone : Said (Unit {0}) → Bool
+wasDone (refused r) = false
+wasDone (gave u) = true
+
+-- a report answers how many pages these are, gives them, and leaves the last word of the buffer
 abbrev pub reports : List ℕ → ℕ → List ℕ → Bool
 reports ws j ps =
-    let buffer : List ℕ = replicate (length ps + 1) 77 in
-    same (reported ws j buffer .left) (ps ++ (77 ∷ []))
+    let o = reported ws j (replicate (length ps + 1) 77) in
+    gaveNumber (length ps) (o .said) && same (o .left) (ps ++ (77 ∷ []))
 
 abbrev pub script : State → List Line → Bool
-script st [] = st .right
+script st [] = st .noted .right
 script st (ask ps ∷ ls) = script (asking st ps) ls
-script st (answers rs ∷ ls) = latest (turned rs []) (st .said) && script st ls
+script st (answers rs ∷ ls) = latest (reversed rs []) (st .noted .said) && script st ls
 script st (pages j ps ∷ ls) = reports (st .left) j ps && script st ls
 script st (stands i v ∷ ls) = eqb (word (st .left) i) v && script st ls
 script st (counts h l s ∷ ls) =
-    let o = replayed (st .start) (turned (st .asked) []) in
+    let o = replayed (st .start) (reversed (st .noted .asked) []) in
     gaveCounts h l s (o .said) && same (o .left) (st .left) && script st ls
 
 abbrev pub curveHolds : ℕ → List ℕ → List ℕ → List ℕ → Bool
 curveHolds m trace result work =
     let c = curved m trace (replicate (m + 1) 9) (replicate (m + 1) 9) in
-    same (c .result) (result ++ (9 ∷ [])) && same (c .work) (work ++ (9 ∷ []))
+    wasDone (c .said) && same (c .left .result) (result ++ (9 ∷ [])) && same (c .left .work) (work ++ (9 ∷ []))
 
-abbrev pub isWrong : Reading → ℕ → ℕ → Bool
-isWrong (unread n l) n′ l′ = eqb n n′ && eqb l l′
-isWrong (accepted p c f g ps) n′ l′ = false
+abbrev pub isWrong : Said Contents → ℕ → ℕ → Bool
+isWrong (refused r) n l = eqb (r .number) n && eqb (r .carried) l
+isWrong (gave t) n l = false
 
-abbrev pub isRead : Reading → List ℕ → List ℕ → Bool
-isRead (unread n l) four trace = false
-isRead (accepted p c f g ps) four trace = same (p ∷ c ∷ f ∷ g ∷ []) four && same ps trace
+abbrev pub isRead : Said Contents → List ℕ → List ℕ → Bool
+isRead (refused r) four trace = false
+isRead (gave t) four trace = let s = t .settings in same (s .policy ∷ s .C ∷ s .first ∷ s .second ∷ []) four && same (t .pages) trace
 
 -- it is the writer's, it is read with just enough room, and one page less or one byte more is refused
 abbrev pub textHolds : List ℕ → ℕ → ℕ → ℕ → ℕ → List ℕ → Bool
@@ -204,8 +216,8 @@ textHolds text p c f g trace =
 
 abbrev pub holds : Row → Bool
 holds (directory s ls) =
-    let start = formed s (replicate (lengthOf s) 77) .left in
-    script (record { start = start; left = start; asked = []; said = []; right = wellKept start }) ls
+    let o = formed s (replicate (lengthOf s) 77) in
+    wasDone (o .said) && script (record { start = o .left; left = o .left; noted = record { asked = []; said = []; right = wellKept (o .left) } }) ls
 holds (curveOf m trace result work) = curveHolds m trace result work
 holds (settings s n) = eqb (refusalOf s) n
 holds (lengthIs s n) = eqb (lengthOf s) n

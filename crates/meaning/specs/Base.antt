@@ -56,19 +56,23 @@ some zero f = false
 some (suc n) f = some n f || f n
 
 -- 1 for a test that passes, 0 for one that fails
-unfoldable pub one : Bool → ℕ
-one true = 1
-one false = 0
+unfoldable pub oneIf : Bool → ℕ
+oneIf true = 1
+oneIf false = 0
 
 -- how many numbers below n pass the test
 unfoldable pub tally : ℕ → (ℕ → Bool) → ℕ
 tally zero f = 0
-tally (suc n) f = tally n f + one (f n)
+tally (suc n) f = tally n f + oneIf (f n)
 
 -- the least number from i on, of n numbers, that passes the test, or i + n
 unfoldable pub first : (ℕ → Bool) → ℕ → ℕ → ℕ
 first f i zero = i
 first f i (suc n) = let r = first f (suc i) n in if f i then i else r
+
+-- the least number below n at which f is x, or n
+abbrev pub find : ℕ → (ℕ → ℕ) → ℕ → ℕ
+find n f x = first (λ i. eqb (f i) x) 0 n
 
 -- from e, the numbers that a link leads to, up to stop; at most n of them
 unfoldable pub walk : ℕ → ℕ → (ℕ → ℕ) → ℕ → List ℕ
@@ -77,5 +81,5 @@ walk stop (suc n) next e = let r = e ∷ walk stop n next (next e) in if eqb e s
 
 -- For a proof that computes: `unfolding openBase` opens every definition of this file.
 unfoldable pub openBase : Unit {0}
-unfolding some one tally first walk
+unfolding some oneIf tally first walk
 openBase = tt

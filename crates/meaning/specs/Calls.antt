@@ -7,24 +7,33 @@ use lib.Dec.{eqb, leb, ltb}
 use Rattle.meaning.specs.Base.{if_then_else_, first, series, pad}
 use Rattle.meaning.specs.Neighbours.{NONE, has}
 use Rattle.meaning.specs.Layout.{Settings, four, longest, mostCapacity, isClock, isList, isHeld, lengthOf, settingsRefusal}
-use Rattle.meaning.specs.Mem.{Mem, words, decode, fresh, entryOf, listOn, held, sits}
+use Rattle.meaning.specs.Mem.{Mem, words, decode, fresh, entryOf, listOn, held, sits, entryCount, policyOf}
 use Rattle.meaning.specs.Room.{Kind, hit, loaded, swapped, Reply}
 use Rattle.meaning.specs.Policies.{request}
 use Rattle.meaning.specs.Rules.{openRules, sound}
 
--- A call refuses with a number, or gives its answer.
+-- A refusal: its number, and what it carries, the line for 10.
+pub record Refusal : Type 0 where
+  pub number : ℕ
+  pub carried : ℕ
+
+-- A refusal that carries nothing.
+abbrev pub plain : ℕ → Refusal
+plain n = record { number = n; carried = 0 }
+
+-- A call refuses, or gives its answer.
 pub data Said (A : Type 0) : Type 0 where
-  refused : ℕ → Said A
+  refused : Refusal → Said A
   gave : A → Said A
 
--- What a call said, and the lent words that it left.
-pub record Outcome (A : Type 0) : Type 0 where
+-- What a call said, and how it left what was lent to it.
+pub record Outcome (A L : Type 0) : Type 0 where
   pub said : Said A
-  pub left : List ℕ
+  pub left : L
 
--- A refusal returns its number, and no lent word is changed.
-unfoldable pub refuse : {A : Type 0} → ℕ → List ℕ → Outcome A
-refuse n ws = record { said = refused n; left = ws }
+-- A refusal returns its number and what it carries, and nothing lent is changed.
+unfoldable pub refuse : {A L : Type 0} → Refusal → L → Outcome A L
+refuse r lent = record { said = refused r; left = lent }
 
 -- The front of a buffer is overwritten; words past that stay.
 unfoldable pub over : List ℕ → List ℕ → List ℕ
@@ -37,15 +46,15 @@ unfoldable pub refusalOf : Settings → ℕ
 refusalOf s = settingsRefusal (s .policy) (s .C) (s .first) (s .second)
 
 -- 4: the length of the lent words is not the exact one. Writes a fresh directory over whatever was there.
-unfoldable pub formed : Settings → List ℕ → Outcome (Unit {0})
+unfoldable pub formed : Settings → List ℕ → Outcome (Unit {0}) (List ℕ)
 formed s ws =
-    if not (eqb (refusalOf s) 0) then refuse (refusalOf s) ws else
-    if not (eqb (length ws) (lengthOf s)) then refuse 4 ws else
+    if not (eqb (refusalOf s) 0) then refuse (plain (refusalOf s)) ws else
+    if not (eqb (length ws) (lengthOf s)) then refuse (plain 4) ws else
     record { said = gave tt; left = words (fresh s) }
 
 -- The length that form asks: 1, 2, 3.
 unfoldable pub wordsFor : Settings → Said ℕ
-wordsFor s = if not (eqb (refusalOf s) 0) then refused (refusalOf s) else gave (lengthOf s)
+wordsFor s = if not (eqb (refusalOf s) 0) then refused (plain (refusalOf s)) else gave (lengthOf s)
 
 -- ── Audit: yes exactly if sound; it has no refusal ──
 
@@ -55,27 +64,47 @@ audited ws = sound ws
 -- ── Request: 5, 6 ──
 
 -- A request on the words of a directory: its answer, and the words after it.
-unfoldable pub answered : List ℕ → ℕ → Outcome Reply
+unfoldable pub answered : List ℕ → ℕ → Outcome Reply (List ℕ)
 answered ws page =
     let d = request (decode ws) page in
     record { said = gave (d .reply); left = words (d .mem) }
 
 -- What any call checks that is lent words and a page, and then does: 5, the lent words are not a sound directory; 6, a page asked for is NONE.
-unfoldable pub onPage : {A : Type 0} → List ℕ → ℕ → A → (ℕ → A) → A
+unfoldable pub onPage : {A : Type 0} → List ℕ → ℕ → A → (Refusal → A) → A
 onPage ws page answer refusal =
-    if not (sound ws) then refusal 5 else
-    if eqb page NONE then refusal 6 else answer
+    if not (sound ws) then refusal (plain 5) else
+    if eqb page NONE then refusal (plain 6) else answer
 
-unfoldable pub requested : List ℕ → ℕ → Outcome Reply
-requested ws page = onPage ws page (answered ws page) (λ n. refuse n ws)
+unfoldable pub requested : List ℕ → ℕ → Outcome Reply (List ℕ)
+requested ws page = onPage ws page (answered ws page) (λ r. refuse r ws)
 
 -- The slot of a request's answer: a caller that wants only the slot meets every refusal by name.
 abbrev pub slotOf : Said Reply → Said ℕ
-slotOf (refused n) = refused n
+slotOf (refused r) = refused r
 slotOf (gave r) = gave (r .slot)
 
-unfoldable pub slotFor : List ℕ → ℕ → Outcome ℕ
+unfoldable pub slotFor : List ℕ → ℕ → Outcome ℕ (List ℕ)
 slotFor ws page = record { said = slotOf (requested ws page .said); left = requested ws page .left }
+
+-- ── What is asked in turn ──
+
+-- What may be asked of a directory, and may change it: a request for a page.
+pub data Event : Type 0 where
+  ask : ℕ → Event
+
+-- The public call that an event is.
+unfoldable pub happens : List ℕ → Event → Outcome Reply (List ℕ)
+happens ws (ask page) = requested ws page
+
+-- What was gathered on the way, and what was left at the end.
+pub record Ran (S W : Type 0) : Type 0 where
+  pub gathered : S
+  pub left : W
+
+-- Events in turn: each meets what the one before left, and something is gathered from each event and its outcome.
+unfoldable pub run : {S W : Type 0} → (W → Event → Outcome Reply W) → (S → Event → Outcome Reply W → S) → S → W → List Event → Ran S W
+run answers gather s w [] = record { gathered = s; left = w }
+run answers gather s w (e ∷ es) = let o = answers w e in run answers gather (gather s e o) (o .left) es
 
 -- ── Look: 5, 6. Changes nothing ──
 
@@ -96,19 +125,19 @@ looked ws page = onPage ws page (gave (sight (decode ws) page)) refused
 
 -- The page in slot s.
 unfoldable pub pageInSlot : Mem → ℕ → ℕ
-pageInSlot m s = m .pages (first (sits m s) 0 (m .tops 2))
+pageInSlot m s = m .pages (first (sits m s) 0 (entryCount m))
 
 -- The pages of list j, front first. For CLOCK, list 1 is the held pages in slot order.
 unfoldable pub pagesOn : Mem → ℕ → List ℕ
-pagesOn m j = if isClock (m .tops 0) then series (pageInSlot m) (held m) 0 else map (m .pages) (m .order j)
+pagesOn m j = if isClock (policyOf m) then series (pageInSlot m) (held m) 0 else map (m .pages) (m .order j)
 
 -- 9: the list number is none of the policy's. 8: a buffer shorter than the list. Writes the list's pages and answers how many; words past that stay.
-unfoldable pub reported : List ℕ → ℕ → List ℕ → Outcome ℕ
+unfoldable pub reported : List ℕ → ℕ → List ℕ → Outcome ℕ (List ℕ)
 reported ws j buffer =
     let m = decode ws in
-    if not (sound ws) then refuse 5 buffer else
-    if not (isList (m .tops 0) j) then refuse 9 buffer else
-    if ltb (length buffer) (length (pagesOn m j)) then refuse 8 buffer else
+    if not (sound ws) then refuse (plain 5) buffer else
+    if not (isList (policyOf m) j) then refuse (plain 9) buffer else
+    if ltb (length buffer) (length (pagesOn m j)) then refuse (plain 8) buffer else
     record { said = gave (length (pagesOn m j)); left = over (pagesOn m j) buffer }
 
 -- ── Replay: 5, 7, 6 ──
@@ -128,45 +157,52 @@ counted c hit = record { hits = c .hits + 1; loads = c .loads; swaps = c .swaps 
 counted c loaded = record { hits = c .hits; loads = c .loads + 1; swaps = c .swaps }
 counted c swapped = record { hits = c .hits; loads = c .loads; swaps = c .swaps + 1 }
 
-pub record Ran : Type 0 where
-  pub counts : Counts
-  pub left : List ℕ
+-- One more answer; a refusal counts nothing.
+abbrev pub countedBy : Counts → Said Reply → Counts
+countedBy c (refused r) = c
+countedBy c (gave r) = counted c (r .kind)
 
--- The requests of a trace in turn, on the words that each leaves, after so many counted.
-unfoldable pub run : Counts → List ℕ → List ℕ → Ran
-run c ws [] = record { counts = c; left = ws }
-run c ws (p ∷ ps) = let d = request (decode ws) p in run (counted c (d .reply .kind)) (words (d .mem)) ps
+-- The counts after one more event.
+unfoldable pub counting : Counts → Event → Outcome Reply (List ℕ) → Counts
+counting c e o = countedBy c (o .said)
 
-unfoldable pub ran : Ran → Outcome Counts
-ran r = record { said = gave (r .counts); left = r .left }
+-- The requests of a trace in turn, with their counts.
+unfoldable pub inTurn : List ℕ → List ℕ → Ran Counts (List ℕ)
+inTurn ws trace = run happens counting none ws (map ask trace)
+
+unfoldable pub ran : Ran Counts (List ℕ) → Outcome Counts (List ℕ)
+ran r = record { said = gave (r .gathered); left = r .left }
 
 -- 7: a trace over 65,535 pages. All pages are checked before the first request.
-unfoldable pub replayed : List ℕ → List ℕ → Outcome Counts
+unfoldable pub replayed : List ℕ → List ℕ → Outcome Counts (List ℕ)
 replayed ws trace =
-    if not (sound ws) then refuse 5 ws else
-    if ltb longest (length trace) then refuse 7 ws else
-    if has trace NONE then refuse 6 ws else
-    ran (run none ws trace)
+    if not (sound ws) then refuse (plain 5) ws else
+    if ltb longest (length trace) then refuse (plain 7) ws else
+    if has trace NONE then refuse (plain 6) ws else
+    ran (inTurn ws trace)
 
 -- ── Curve: 2, 7, 6, 8 ──
 
 -- What a fresh LRU directory of capacity c does with a trace.
-unfoldable pub lruRun : ℕ → List ℕ → Ran
-lruRun c trace = run none (words (fresh (four 1 c 0 0))) trace
+unfoldable pub lruRun : ℕ → List ℕ → Ran Counts (List ℕ)
+lruRun c trace = inTurn (words (fresh (four 1 c 0 0))) trace
 
 -- The hits of LRU at capacity c.
 unfoldable pub lruHits : List ℕ → ℕ → ℕ
-lruHits trace c = lruRun c trace .counts .hits
+lruHits trace c = lruRun c trace .gathered .hits
 
 -- The LRU list at capacity m, front first.
 unfoldable pub lruPages : List ℕ → ℕ → List ℕ
 lruPages trace m = pagesOn (decode (lruRun m trace .left)) 1
 
--- What the curve said, and its two buffers afterwards.
-pub record CurveOutcome : Type 0 where
-  pub said : Said (Unit {0})
+-- The two buffers that are lent to the curve.
+pub record Buffers : Type 0 where
   pub result : List ℕ
   pub work : List ℕ
+
+-- The two as one.
+abbrev pub both : List ℕ → List ℕ → Buffers
+both result work = record { result = result; work = work }
 
 -- 2: m is not 1 to 512. 7: trace over 65,535 pages. 6: a page is NONE. 8: result or work under m words. 0: none of these.
 unfoldable pub curveRefusal : ℕ → List ℕ → ℕ → ℕ → ℕ
@@ -177,17 +213,13 @@ curveRefusal m trace room places =
     if ltb room m || ltb places m then 8 else 0
 
 -- Result word c-1 holds the LRU hits at capacity c, for c from 1 to m. Work's first m words hold the LRU list at capacity m, then NONE. Words past m stay in both.
-unfoldable pub curved : ℕ → List ℕ → List ℕ → List ℕ → CurveOutcome
+unfoldable pub curved : ℕ → List ℕ → List ℕ → List ℕ → Outcome (Unit {0}) Buffers
 curved m trace result work =
-    let r = curveRefusal m trace (length result) (length work) in
-    if not (eqb r 0) then record { said = refused r; result = result; work = work } else
-    record {
-      said = gave tt;
-      result = over (series (lruHits trace) m 1) result;
-      work = over (pad NONE m (lruPages trace m)) work;
-    }
+    let n = curveRefusal m trace (length result) (length work) in
+    if not (eqb n 0) then refuse (plain n) (both result work) else
+    record { said = gave tt; left = both (over (series (lruHits trace) m 1) result) (over (pad NONE m (lruPages trace m)) work) }
 
 -- For a proof that computes: `unfolding openCalls` opens every definition of this file and of the files below it.
 unfoldable pub openCalls : Unit {0}
-unfolding openRules refuse over refusalOf formed wordsFor audited answered onPage requested slotFor sight looked pageInSlot pagesOn reported counted run ran replayed lruRun lruHits lruPages curveRefusal curved
+unfolding openRules refuse over refusalOf formed wordsFor audited answered onPage requested slotFor happens run sight looked pageInSlot pagesOn reported counted counting inTurn ran replayed lruRun lruHits lruPages curveRefusal curved
 openCalls = tt

@@ -2,12 +2,12 @@
 use Prim.Native.Nat.{ℕ, zero, suc, _+_}
 use lib.Dec.{eqb}
 use Rattle.meaning.specs.Base.{if_then_else_}
-use Rattle.meaning.specs.Mem.{Mem, entryOf, listOn, full, withWord6, withMark, enterSeat}
+use Rattle.meaning.specs.Mem.{Mem, entryOf, listOn, full, withWord6, withMark, enterSeat, capacityOf, handOf}
 use Rattle.meaning.specs.Room.{Done, Room, asItIs, putOut, hitAt, load}
 
 -- Advance the hand: C-1 goes to 0.
 unfoldable pub advance : Mem → Mem
-advance m = withWord6 (if eqb (m .tops 6 + 1) (m .tops 1) then 0 else m .tops 6 + 1) m
+advance m = withWord6 (if eqb (handOf m + 1) (capacityOf m) then 0 else handOf m + 1) m
 
 -- A directory whose hand came to rest, and the marks that were cleared on the way.
 pub record Swept : Type 0 where
@@ -18,8 +18,8 @@ pub record Swept : Type 0 where
 unfoldable pub sweep : ℕ → Mem → ℕ → Swept
 sweep zero m cleared = record { mem = m; cleared = cleared }
 sweep (suc n) m cleared =
-    let more = sweep n (advance (withMark (m .tops 6) 0 m)) (cleared + 1) in
-    if eqb (m .marks (m .tops 6)) 0 then record { mem = m; cleared = cleared } else more
+    let more = sweep n (advance (withMark (handOf m) 0 m)) (cleared + 1) in
+    if eqb (m .marks (handOf m)) 0 then record { mem = m; cleared = cleared } else more
 
 -- A new page takes its place in a directory with room; its mark is 0.
 unfoldable pub seats : Room → ℕ → Mem
@@ -28,7 +28,7 @@ seats r page = enterSeat page (r .slot) (r .mem)
 -- Put out the page at the hand, load with mark 0, advance the hand.
 unfoldable pub clockSwap : Swept → ℕ → Done
 clockSwap s page =
-    let r = putOut (s .mem) (s .mem .tops 6) in
+    let r = putOut (s .mem) (handOf (s .mem)) in
     load r (s .cleared) (advance (seats r page))
 
 -- Free slot: load there, mark 0, hand stays.
@@ -40,5 +40,5 @@ unfoldable pub clock : Mem → ℕ → Done
 clock m page =
     let e = entryOf m page in
     if eqb (listOn m page) 1 then hitAt m e (withMark e 1 m) else
-    if full m then clockSwap (sweep (m .tops 1) m 0) page else
+    if full m then clockSwap (sweep (capacityOf m) m 0) page else
     clockLoad m page

@@ -69,6 +69,31 @@ bucketOf k page = if eqb k 0 then 0 else (page * 2654435769) % 4294967296 / 2 ^ 
 abbrev pub cellAt : ℕ → ℕ → ℕ
 cellAt i f = 16 + 8 * i + f
 
+-- The eight words of an entry by their names, in their order.
+abbrev pub pageCol : ℕ
+pageCol = 0
+
+abbrev pub listCol : ℕ
+listCol = 1
+
+abbrev pub slotCol : ℕ
+slotCol = 2
+
+abbrev pub previousCol : ℕ
+previousCol = 3
+
+abbrev pub nextCol : ℕ
+nextCol = 4
+
+abbrev pub chainCol : ℕ
+chainCol = 5
+
+abbrev pub markCol : ℕ
+markCol = 6
+
+abbrev pub lastCol : ℕ
+lastCol = 7
+
 -- Words 7 and 8 are head and tail of list 1, 9 and 10 of list 2, 11 and 12 of list 3, 13 and 14 of list 4.
 abbrev pub headAt : ℕ → ℕ
 headAt j = 5 + 2 * j

@@ -14,10 +14,3 @@ pub mod Calls
 pub mod Text
 pub mod Answers
 pub mod Program
-pub mod Places
-pub mod Shape
-pub mod Proper
-pub mod Vacant
-pub mod Ram
-pub mod Whole
-pub mod Kept

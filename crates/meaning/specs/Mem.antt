@@ -5,9 +5,9 @@ use mathlib.Core.Bool.{Bool, not, _&&_}
 use mathlib.Core.List.{List, [], _∷_}
 use lib.ListN.{length, getD}
 use lib.Dec.{eqb, leb, ltb}
-use Rattle.meaning.specs.Base.{openBase, if_then_else_, some, tally, first, walk}
+use Rattle.meaning.specs.Base.{openBase, if_then_else_, some, tally, first, find, walk}
 use Rattle.meaning.specs.Neighbours.{NONE, put, has, remove, behind, ahead, after, before}
-use Rattle.meaning.specs.Layout.{openLayout, Settings, isHeld, entriesOf, bitsOf, bucketOf, cellAt, headAt, bucketAt}
+use Rattle.meaning.specs.Layout.{openLayout, Settings, isHeld, entriesOf, bitsOf, bucketOf, cellAt, headAt, bucketAt, pageCol, listCol, slotCol, nextCol, chainCol, markCol}
 
 -- A directory: header words 0 to 6; an entry's page, list, slot and mark, by its number; a list's entries, front first; a bucket's chain.
 pub record Mem : Type 0 where
@@ -19,9 +19,37 @@ pub record Mem : Type 0 where
   pub order : ℕ → List ℕ
   pub chained : ℕ → List ℕ
 
+-- The header words of a directory by their names: 0 policy; 1 C; 2 entries E; 3 index bits k; 4 first; 5 second; 6 the target of ARC, the hand of CLOCK.
+abbrev pub policyOf : Mem → ℕ
+policyOf m = m .tops 0
+
+abbrev pub capacityOf : Mem → ℕ
+capacityOf m = m .tops 1
+
+abbrev pub entryCount : Mem → ℕ
+entryCount m = m .tops 2
+
+abbrev pub indexBits : Mem → ℕ
+indexBits m = m .tops 3
+
+abbrev pub firstOf : Mem → ℕ
+firstOf m = m .tops 4
+
+abbrev pub secondOf : Mem → ℕ
+secondOf m = m .tops 5
+
+abbrev pub word6Of : Mem → ℕ
+word6Of m = m .tops 6
+
+abbrev pub targetOf : Mem → ℕ
+targetOf m = m .tops 6
+
+abbrev pub handOf : Mem → ℕ
+handOf m = m .tops 6
+
 -- The bucket of a page in this directory.
 abbrev pub home : Mem → ℕ → ℕ
-home m p = bucketOf (m .tops 3) p
+home m p = bucketOf (indexBits m) p
 
 -- ── The words that stand for a directory ──
 
@@ -54,9 +82,9 @@ headTail m j rest = after (m .order j) NONE ∷ before (m .order j) NONE ∷ res
 -- Sixteen header words: 0 policy; 1 C; 2 entries E; 3 index bits k; 4 first; 5 second; 6 target or hand; 7 to 14 heads and tails; 15 always 0. Then the entries, then the buckets.
 unfoldable pub words : Mem → List ℕ
 words m =
-    m .tops 0 ∷ m .tops 1 ∷ m .tops 2 ∷ m .tops 3 ∷ m .tops 4 ∷ m .tops 5 ∷ m .tops 6
+    policyOf m ∷ capacityOf m ∷ entryCount m ∷ indexBits m ∷ firstOf m ∷ secondOf m ∷ word6Of m
     ∷ headTail m 1 (headTail m 2 (headTail m 3 (headTail m 4
-    (0 ∷ entriesFrom m 0 (m .tops 2) (bucketsFrom m 0 (2 ^ m .tops 3))))))
+    (0 ∷ entriesFrom m 0 (entryCount m) (bucketsFrom m 0 (2 ^ indexBits m))))))
 
 -- ── The directory that words stand for ──
 
@@ -64,9 +92,34 @@ words m =
 abbrev pub word : List ℕ → ℕ → ℕ
 word ws i = getD ws i 0
 
+-- The header words of any words by their names.
+abbrev pub policyIn : List ℕ → ℕ
+policyIn ws = word ws 0
+
+abbrev pub capacityIn : List ℕ → ℕ
+capacityIn ws = word ws 1
+
+abbrev pub E : List ℕ → ℕ
+E ws = word ws 2
+
+abbrev pub bitsIn : List ℕ → ℕ
+bitsIn ws = word ws 3
+
+abbrev pub firstIn : List ℕ → ℕ
+firstIn ws = word ws 4
+
+abbrev pub secondIn : List ℕ → ℕ
+secondIn ws = word ws 5
+
+abbrev pub word6In : List ℕ → ℕ
+word6In ws = word ws 6
+
+abbrev pub endIn : List ℕ → ℕ
+endIn ws = word ws 15
+
 -- Word f of entry i, of as many entries as word 2 says; d past them.
 unfoldable pub field : List ℕ → ℕ → ℕ → ℕ → ℕ
-field ws f d i = if ltb i (word ws 2) then word ws (cellAt i f) else d
+field ws f d i = if ltb i (E ws) then word ws (cellAt i f) else d
 
 -- Header word t, of words 0 to 6.
 unfoldable pub topOf : List ℕ → ℕ → ℕ
@@ -74,24 +127,24 @@ topOf ws t = if ltb t 7 then word ws t else 0
 
 -- The entries from e on, by the links in word f of each, up to NONE; one more than E is enough to see a walk that does not end.
 abbrev pub linked : List ℕ → ℕ → ℕ → List ℕ
-linked ws f e = walk NONE (word ws 2 + 1) (λ i. word ws (cellAt i f)) e
+linked ws f e = walk NONE (E ws + 1) (λ i. word ws (cellAt i f)) e
 
 -- The entries of list j, front first: from its head, by next.
 unfoldable pub listOf : List ℕ → ℕ → List ℕ
-listOf ws j = if leb 1 j && leb j 4 then linked ws 4 (word ws (headAt j)) else []
+listOf ws j = if leb 1 j && leb j 4 then linked ws nextCol (word ws (headAt j)) else []
 
 -- The entries of bucket b: from its word, by chain.
 unfoldable pub chainOf : List ℕ → ℕ → List ℕ
-chainOf ws b = if ltb b (2 ^ word ws 3) then linked ws 5 (word ws (bucketAt (word ws 2) b)) else []
+chainOf ws b = if ltb b (2 ^ bitsIn ws) then linked ws chainCol (word ws (bucketAt (E ws) b)) else []
 
 -- The directory that the words stand for.
 unfoldable pub decode : List ℕ → Mem
 decode ws = record {
   tops = topOf ws;
-  pages = field ws 0 NONE;
-  lists = field ws 1 0;
-  slots = field ws 2 NONE;
-  marks = field ws 6 0;
+  pages = field ws pageCol NONE;
+  lists = field ws listCol 0;
+  slots = field ws slotCol NONE;
+  marks = field ws markCol 0;
   order = listOf ws;
   chained = chainOf ws;
 }
@@ -125,7 +178,7 @@ fresh s = empty (settingsTop s)
 
 -- The entry that has a page, or E.
 unfoldable pub entryOf : Mem → ℕ → ℕ
-entryOf m page = first (λ i. eqb (m .pages i) page) 0 (m .tops 2)
+entryOf m page = find (entryCount m) (m .pages) page
 
 -- The list that a page is on, or 0.
 unfoldable pub listOn : Mem → ℕ → ℕ
@@ -141,11 +194,11 @@ back m j = before (m .order j) NONE
 
 -- How many pages are held.
 unfoldable pub held : Mem → ℕ
-held m = tally (m .tops 2) (λ i. isHeld (m .lists i))
+held m = tally (entryCount m) (λ i. isHeld (m .lists i))
 
 -- C are held.
 unfoldable pub full : Mem → Bool
-full m = leb (m .tops 1) (held m)
+full m = leb (capacityOf m) (held m)
 
 -- Entry i holds a page in slot s.
 abbrev pub sits : Mem → ℕ → ℕ → Bool
@@ -153,15 +206,15 @@ sits m s i = isHeld (m .lists i) && eqb (m .slots i) s
 
 -- A held page has the slot s.
 unfoldable pub taken : Mem → ℕ → Bool
-taken m s = some (m .tops 2) (sits m s)
+taken m s = some (entryCount m) (sits m s)
 
 -- The lowest free slot.
 unfoldable pub freeSlot : Mem → ℕ
-freeSlot m = first (λ s. not (taken m s)) 0 (m .tops 1)
+freeSlot m = first (λ s. not (taken m s)) 0 (capacityOf m)
 
 -- The lowest free entry, or E.
 unfoldable pub lowest : Mem → ℕ
-lowest m = first (λ i. eqb (m .lists i) 0) 0 (m .tops 2)
+lowest m = find (entryCount m) (m .lists) 0
 
 -- ── Changing a directory ──
 
@@ -300,9 +353,13 @@ seat e j m = record {
   chained = m .chained;
 }
 
+-- Entry e of CLOCK with a page and a slot, at the front of the page's chain, on list 1.
+abbrev pub fillSeat : ℕ → ℕ → ℕ → Mem → Mem
+fillSeat e p s m = seat e 1 (filled e p s m)
+
 -- A new page of CLOCK takes the lowest free entry and the front of its chain, on list 1.
 unfoldable pub enterSeat : ℕ → ℕ → Mem → Mem
-enterSeat p s m = seat (lowest m) 1 (filled (lowest m) p s m)
+enterSeat p s m = fillSeat (lowest m) p s m
 
 -- For a proof that computes: `unfolding openMem` opens every definition of this file and of the files below it.
 unfoldable pub openMem : Unit {0}

@@ -2,7 +2,7 @@
 use Prim.Native.Nat.{ℕ}
 use lib.Dec.{eqb}
 use Rattle.meaning.specs.Base.{if_then_else_}
-use Rattle.meaning.specs.Mem.{Mem}
+use Rattle.meaning.specs.Mem.{Mem, policyOf}
 use Rattle.meaning.specs.Room.{openRoom, Done}
 use Rattle.meaning.specs.Lru.{lruRoom, lru}
 use Rattle.meaning.specs.Clock.{advance, sweep, seats, clockSwap, clockLoad, clock}
@@ -13,10 +13,10 @@ use Rattle.meaning.specs.Arc.{stepOf, grown, shrunk, fromT1, replace, ar
 -- The answer to a request for a page, and the directory after it: 1 LRU, 2 CLOCK, 3 segmented, 4 2Q, 5 ARC.
 unfoldable pub request : Mem → ℕ → Done
 request m page =
-    if eqb (m .tops 0) 1 then lru m page else
-    if eqb (m .tops 0) 2 then clock m page else
-    if eqb (m .tops 0) 3 then segmented m page else
-    if eqb (m .tops 0) 4 then twoQ m page else
+    if eqb (policyOf m) 1 then lru m page else
+    if eqb (policyOf m) 2 then clock m page else
+    if eqb (policyOf m) 3 then segmented m page else
+    if eqb (policyOf m) 4 then twoQ m page else
     arc m page
 
 -- For a proof that computes: `unfolding openPolicies` opens every definition of this file and of the files below it.

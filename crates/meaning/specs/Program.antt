@@ -2,9 +2,9 @@
 use Prim.Native.Nat.{ℕ}
 use mathlib.Core.List.{List, [], _∷_, _++_}
 use lib.ListN.{replicate}
-use Rattle.meaning.specs.Layout.{Settings, four}
-use Rattle.meaning.specs.Calls.{Said, refused, gave, wordsFor, formed, replayed, Counts, none}
-use Rattle.meaning.specs.Text.{openText, lineOf, Reading, unread, accepted, readText}
+use Rattle.meaning.specs.Layout.{Settings}
+use Rattle.meaning.specs.Calls.{Refusal, Said, refused, gave, wordsFor, formed, replayed, Counts, none}
+use Rattle.meaning.specs.Text.{openText, lineOf, readText}
 
 -- The pages that the program has room for.
 abbrev pub programRoom : ℕ
@@ -16,9 +16,9 @@ pub record Five : Type 0 where
   pub line : ℕ
   pub counts : Counts
 
--- A refusal ends it; unused numbers are 0.
-abbrev pub ended : ℕ → ℕ → Five
-ended n l = record { refused = n; line = l; counts = none }
+-- A refusal ends it, with its number and the line that it carries; unused numbers are 0.
+abbrev pub ended : Refusal → Five
+ended r = record { refused = r .number; line = r .carried; counts = none }
 
 -- A replay that did not refuse gives its counts.
 abbrev pub finished : Counts → Five
@@ -26,7 +26,7 @@ finished c = record { refused = 0; line = 0; counts = c }
 
 -- What follows, unless a call refused.
 abbrev pub onward : {A : Type 0} → Said A → (A → Five) → Five
-onward (refused n) f = ended n 0
+onward (refused r) f = ended r
 onward (gave a) f = f a
 
 -- Replays the pages in the words of a directory.
@@ -41,14 +41,9 @@ formIn s ws pages = let o = formed s ws in onward (o .said) (λ u. replayIn (o .
 unfoldable pub playIn : Settings → List ℕ → Five
 playIn s pages = onward (wordsFor s) (λ n. formIn s (replicate n 0) pages)
 
--- After reading.
-abbrev pub afterRead : Reading → Five
-afterRead (unread n l) = ended n l
-afterRead (accepted p c f g pages) = playIn (four p c f g) pages
-
 -- Reads, forms and replays; the first refusal ends it.
 unfoldable pub programmed : List ℕ → Five
-programmed text = afterRead (readText text programRoom)
+programmed text = onward (readText text programRoom) (λ t. playIn (t .settings) (t .pages))
 
 -- `refused=`, `line=`, `hits=`, `loads=` and `swaps=`.
 abbrev pub refusedKey : List ℕ

@@ -6,35 +6,32 @@ use lib.ListN.{length, getD}
 use lib.Dec.{eqb, leb, ltb}
 use Rattle.meaning.specs.Base.{if_then_else_, all, lastOr, every, tally, _⇒_}
 use Rattle.meaning.specs.Neighbours.{NONE, has}
-use Rattle.meaning.specs.Layout.{isClock, isList, isHeld, entriesOf, bitsOf, lengthFor, bucketOf, settingsRefusal, markLimit, unit, cellAt, headAt, tailAt, bucketAt}
-use Rattle.meaning.specs.Mem.{word, linked}
+use Rattle.meaning.specs.Layout.{isClock, isList, isHeld, entriesOf, bitsOf, lengthFor, bucketOf, settingsRefusal, markLimit, unit, cellAt, headAt, tailAt, bucketAt, lastCol, listCol, markCol, nextCol, pageCol, previousCol, slotCol, chainCol}
+use Rattle.meaning.specs.Mem.{word, linked, E, bitsIn, capacityIn, endIn, firstIn, policyIn, secondIn, word6In}
 use Rattle.meaning.specs.Policies.{openPolicies}
 
 -- ── The words of entry i, of any words ──
 
-abbrev pub E : List ℕ → ℕ
-E ws = word ws 2
-
 abbrev pub pageIn : List ℕ → ℕ → ℕ
-pageIn ws i = word ws (cellAt i 0)
+pageIn ws i = word ws (cellAt i pageCol)
 
 abbrev pub listIn : List ℕ → ℕ → ℕ
-listIn ws i = word ws (cellAt i 1)
+listIn ws i = word ws (cellAt i listCol)
 
 abbrev pub slotIn : List ℕ → ℕ → ℕ
-slotIn ws i = word ws (cellAt i 2)
+slotIn ws i = word ws (cellAt i slotCol)
 
 abbrev pub previousIn : List ℕ → ℕ → ℕ
-previousIn ws i = word ws (cellAt i 3)
+previousIn ws i = word ws (cellAt i previousCol)
 
 abbrev pub nextIn : List ℕ → ℕ → ℕ
-nextIn ws i = word ws (cellAt i 4)
+nextIn ws i = word ws (cellAt i nextCol)
 
 abbrev pub markIn : List ℕ → ℕ → ℕ
-markIn ws i = word ws (cellAt i 6)
+markIn ws i = word ws (cellAt i markCol)
 
 abbrev pub lastIn : List ℕ → ℕ → ℕ
-lastIn ws i = word ws (cellAt i 7)
+lastIn ws i = word ws (cellAt i lastCol)
 
 -- Entry i is used; entry i holds a page; entry i is on list j.
 abbrev pub used : List ℕ → ℕ → Bool
@@ -55,10 +52,10 @@ heldCount ws = count ws 1 + count ws 2
 
 -- The entries from the head of list j on, by next; and those from the word of bucket b on, by chain.
 abbrev pub listFrom : List ℕ → ℕ → List ℕ
-listFrom ws j = linked ws 4 (word ws (headAt j))
+listFrom ws j = linked ws nextCol (word ws (headAt j))
 
 abbrev pub bucketFrom : List ℕ → ℕ → List ℕ
-bucketFrom ws b = linked ws 5 (word ws (bucketAt (E ws) b))
+bucketFrom ws b = linked ws chainCol (word ws (bucketAt (E ws) b))
 
 -- ── a ──
 
@@ -66,10 +63,10 @@ bucketFrom ws b = linked ws 5 (word ws (bucketAt (E ws) b))
 unfoldable pub ruleA : List ℕ → Bool
 ruleA ws =
     leb 16 (length ws)
-    && eqb (settingsRefusal (word ws 0) (word ws 1) (word ws 4) (word ws 5)) 0
-    && eqb (word ws 2) (entriesOf (word ws 0) (word ws 1) (word ws 5))
-    && eqb (word ws 3) (bitsOf (word ws 2))
-    && eqb (length ws) (lengthFor (word ws 2))
+    && eqb (settingsRefusal (policyIn ws) (capacityIn ws) (firstIn ws) (secondIn ws)) 0
+    && eqb (E ws) (entriesOf (policyIn ws) (capacityIn ws) (secondIn ws))
+    && eqb (bitsIn ws) (bitsOf (E ws))
+    && eqb (length ws) (lengthFor (E ws))
 
 -- ── b ──
 
@@ -81,7 +78,7 @@ word6Fits policy C v =
 
 -- Word 6 fits; word 15 is 0.
 unfoldable pub ruleB : List ℕ → Bool
-ruleB ws = word6Fits (word ws 0) (word ws 1) (word ws 6) && eqb (word ws 15) 0
+ruleB ws = word6Fits (policyIn ws) (capacityIn ws) (word6In ws) && eqb (endIn ws) 0
 
 -- ── c ──
 
@@ -95,8 +92,8 @@ isFree ws i = every 8 (λ f. eqb (word ws (cellAt i f)) (getD freeWords f 0))
 -- A page that isn't NONE, a list its policy uses, last word 0, and mark 0, or 0 or 1 for CLOCK.
 unfoldable pub isTaken : List ℕ → ℕ → Bool
 isTaken ws i =
-    not (eqb (pageIn ws i) NONE) && isList (word ws 0) (listIn ws i)
-    && (eqb (lastIn ws i) 0 && leb (markIn ws i) (markLimit (word ws 0)))
+    not (eqb (pageIn ws i) NONE) && isList (policyIn ws) (listIn ws i)
+    && (eqb (lastIn ws i) 0 && leb (markIn ws i) (markLimit (policyIn ws)))
 
 unfoldable pub entryRight : List ℕ → ℕ → Bool
 entryRight ws i = isFree ws i || isTaken ws i
@@ -142,7 +139,7 @@ endNone ws h = eqb (word ws (7 + h)) NONE
 -- Each list is right; for CLOCK each head, tail and entry.
 unfoldable pub ruleD : List ℕ → Bool
 ruleD ws =
-    if isClock (word ws 0) then every 8 (endNone ws) && every (E ws) (clockRight ws)
+    if isClock (policyIn ws) then every 8 (endNone ws) && every (E ws) (clockRight ws)
     else every 4 (λ j. listRight ws (j + 1))
 
 -- ── e ──
@@ -152,7 +149,7 @@ abbrev pub unlike : List ℕ → (ℕ → Bool) → ℕ → ℕ → Bool
 unlike ws test f i = every i (λ h. test h ⇒ not (eqb (word ws (cellAt h f)) (word ws (cellAt i f))))
 
 unfoldable pub pageNew : List ℕ → ℕ → Bool
-pageNew ws i = used ws i ⇒ unlike ws (used ws) 0 i
+pageNew ws i = used ws i ⇒ unlike ws (used ws) pageCol i
 
 -- No page stands in two used entries.
 unfoldable pub ruleE : List ℕ → Bool
@@ -163,7 +160,7 @@ ruleE ws = every (E ws) (pageNew ws)
 -- With n held pages, a held page's slot is one of 0 to n-1 and no other's; a ghost's slot is NONE.
 unfoldable pub slotRight : List ℕ → ℕ → ℕ → Bool
 slotRight ws n i =
-    if holds ws i then ltb (slotIn ws i) n && unlike ws (holds ws) 2 i
+    if holds ws i then ltb (slotIn ws i) n && unlike ws (holds ws) slotCol i
     else used ws i ⇒ eqb (slotIn ws i) NONE
 
 -- With n held pages, their slots are 0 to n-1, each once; a ghost's slot is NONE.
@@ -174,7 +171,7 @@ ruleF ws = every (E ws) (slotRight ws (heldCount ws))
 
 -- The bucket of entry i's page, and a used entry of bucket b.
 abbrev pub bucketIn : List ℕ → ℕ → ℕ
-bucketIn ws i = bucketOf (word ws 3) (pageIn ws i)
+bucketIn ws i = bucketOf (bitsIn ws) (pageIn ws i)
 
 abbrev pub ofBucket : List ℕ → ℕ → ℕ → Bool
 ofBucket ws b i = used ws i && eqb (bucketIn ws i) b
@@ -189,7 +186,7 @@ chained ws i = used ws i ⇒ has (bucketFrom ws (bucketIn ws i)) i
 
 -- Each bucket's chain visits exactly the used entries of that bucket, each once, then NONE.
 unfoldable pub ruleG : List ℕ → Bool
-ruleG ws = every (2 ^ word ws 3) (chainRight ws) && every (E ws) (chained ws)
+ruleG ws = every (2 ^ bitsIn ws) (chainRight ws) && every (E ws) (chained ws)
 
 -- ── h ──
 
@@ -207,7 +204,7 @@ sizesRight policy C first second n1 n2 n3 n4 =
     if eqb policy 5 then arcSizes C n1 n2 n3 n4 else true)
 
 unfoldable pub ruleH : List ℕ → Bool
-ruleH ws = sizesRight (word ws 0) (word ws 1) (word ws 4) (word ws 5) (count ws 1) (count ws 2) (count ws 3) (count ws 4)
+ruleH ws = sizesRight (policyIn ws) (capacityIn ws) (firstIn ws) (secondIn ws) (count ws 1) (count ws 2) (count ws 3) (count ws 4)
 
 -- ── All of them ──
 

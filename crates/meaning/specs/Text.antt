@@ -5,8 +5,8 @@ use mathlib.Core.List.{List, [], _∷_, _++_}
 use lib.ListN.{length}
 use lib.Dec.{ltb, eqb}
 use Rattle.meaning.specs.Base.{if_then_else_}
-use Rattle.meaning.specs.Layout.{longest}
-use Rattle.meaning.specs.Calls.{openCalls, gave, Outcome, refuse, over}
+use Rattle.meaning.specs.Layout.{Settings, four, longest}
+use Rattle.meaning.specs.Calls.{openCalls, Refusal, plain, Said, refused, gave, Outcome, refuse, over}
 
 -- ── The text of settings and a trace ──
 
@@ -110,54 +110,68 @@ abbrev pub pagesIn : ℕ → List ℕ → List ℕ
 pagesIn zero s = []
 pagesIn (suc n) s = onLine (line pageKey s) [] (λ v rest. v ∷ pagesIn n rest)
 
--- A text is refused with a number and a line (0 for none), or accepted with its settings and pages.
-pub data Reading : Type 0 where
-  unread : ℕ → ℕ → Reading
-  accepted : ℕ → ℕ → ℕ → ℕ → List ℕ → Reading
+-- What a text holds: its settings and its pages.
+pub record Contents : Type 0 where
+  pub settings : Settings
+  pub pages : List ℕ
+
+-- 10: a text line not as laid down; the line's number comes with it.
+abbrev pub wrongLine : ℕ → Refusal
+wrongLine l = record { number = 10; carried = l }
 
 -- Refused with the first wrong line, if there is one.
-abbrev pub onPages : ℕ → Reading → Reading
+abbrev pub onPages : ℕ → Said Contents → Said Contents
 onPages zero a = a
-onPages (suc l) a = unread 10 (suc l)
+onPages (suc l) a = refused (wrongLine (suc l))
 
 -- After the lines 1 to 5 (10): 7 (count); 8 (trace buffer under count); the page lines (10).
-abbrev pub onHead : ℕ → Header → Reading
-onHead room (badHead l) = unread 10 l
+abbrev pub onHead : ℕ → Header → Said Contents
+onHead room (badHead l) = refused (wrongLine l)
 onHead room (head p c f g n s) =
-    let pages = onPages (firstWrong n 6 s) (accepted p c f g (pagesIn n s)) in
-    cond (ltb longest n) (unread 7 0) (cond (ltb room n) (unread 8 0) pages)
+    let pages = onPages (firstWrong n 6 s) (gave (record { settings = four p c f g; pages = pagesIn n s })) in
+    cond (ltb longest n) (refused (plain 7)) (cond (ltb room n) (refused (plain 8)) pages)
 
 -- What a text means to a reader with room for so many pages: 7 (text length); then the lines.
-unfoldable pub readText : List ℕ → ℕ → Reading
-readText text room = let rest = onHead room (header text) in cond (ltb longest (length text)) (unread 7 0) rest
+unfoldable pub readText : List ℕ → ℕ → Said Contents
+readText text room = let rest = onHead room (header text) in cond (ltb longest (length text)) (refused (plain 7)) rest
 
 -- ── Read ──
 
--- What read says: the refusal's number and line, or the four settings and the count.
-pub data ReadSaid : Type 0 where
-  readRefused : ℕ → ℕ → ReadSaid
-  readGave : ℕ → ℕ → ℕ → ℕ → ℕ → ReadSaid
+-- What read answers: the four settings and the count.
+pub record Accepted : Type 0 where
+  pub policy : ℕ
+  pub capacity : ℕ
+  pub first : ℕ
+  pub second : ℕ
+  pub count : ℕ
 
-abbrev pub readSaid : Reading → ReadSaid
-readSaid (unread n l) = readRefused n l
-readSaid (accepted p c f g ps) = readGave p c f g (length ps)
+-- Accepted: the four settings and the count are returned and the pages stand at the front of the trace buffer; the rest stays.
+abbrev pub accepted : Contents → List ℕ → Outcome Accepted (List ℕ)
+accepted t trace = let s = t .settings in record {
+  said = gave (record { policy = s .policy; capacity = s .C; first = s .first; second = s .second; count = length (t .pages) });
+  left = over (t .pages) trace;
+}
 
--- The trace buffer afterwards: the pages stand at its front; the rest stays.
-abbrev pub readLeft : Reading → List ℕ → List ℕ
-readLeft (unread n l) trace = trace
-readLeft (accepted p c f g ps) trace = over ps trace
+-- What follows from what a text means.
+abbrev pub onText : Said Contents → List ℕ → Outcome Accepted (List ℕ)
+onText (refused r) trace = refuse r trace
+onText (gave t) trace = accepted t trace
+
+-- Reads a text into a trace buffer.
+unfoldable pub read : List ℕ → List ℕ → Outcome Accepted (List ℕ)
+read text trace = onText (readText text (length trace)) trace
 
 -- ── Write ──
 
 -- The writer checks 7 (trace), 8 (result shorter than the text), answers the length written and leaves later bytes as they stood. It refuses no page number and no setting.
-unfoldable pub wrote : ℕ → ℕ → ℕ → ℕ → List ℕ → List ℕ → Outcome ℕ
+unfoldable pub wrote : ℕ → ℕ → ℕ → ℕ → List ℕ → List ℕ → Outcome ℕ (List ℕ)
 wrote policy capacity first second trace buffer =
     let text = textOf policy capacity first second trace in
-    if ltb longest (length trace) then refuse 7 buffer else
-    if ltb (length buffer) (length text) then refuse 8 buffer else
+    if ltb longest (length trace) then refuse (plain 7) buffer else
+    if ltb (length buffer) (length text) then refuse (plain 8) buffer else
     record { said = gave (length text); left = over text buffer }
 
 -- For a proof that computes: `unfolding openText` opens every definition of this file and of the files below it.
 unfoldable pub openText : Unit {0}
-unfolding openCalls decimal lineOf textOf header readText wrote
+unfolding openCalls decimal lineOf textOf header readText read wrote
 openText = tt

@@ -3,12 +3,12 @@ use Prim.Native.Nat.{ℕ}
 use mathlib.Core.Bool.{not}
 use lib.Dec.{eqb, ltb}
 use Rattle.meaning.specs.Base.{if_then_else_}
-use Rattle.meaning.specs.Mem.{Mem, entryOf, listOn, size, back, full, off, toFront, clear}
+use Rattle.meaning.specs.Mem.{Mem, entryOf, listOn, size, back, full, off, toFront, clear, firstOf, secondOf}
 use Rattle.meaning.specs.Room.{Done, Room, asItIs, putOut, putOutTo, hitAt, enters, returns}
 
 -- If A1out is over Kout its back is removed.
 unfoldable pub trimmed : Mem → Mem
-trimmed m = if ltb (m .tops 5) (size m 3) then clear (back m 3) m else m
+trimmed m = if ltb (secondOf m) (size m 3) then clear (back m 3) m else m
 
 unfoldable pub trimmedRoom : Room → Room
 trimmedRoom r = record { mem = trimmed (r .mem); slot = r .slot; out = r .out }
@@ -17,7 +17,7 @@ trimmedRoom r = record { mem = trimmed (r .mem); slot = r .slot; out = r .out }
 unfoldable pub makeRoom : Mem → Room
 makeRoom m =
     if not (full m) then asItIs m else
-    if ltb (m .tops 4) (size m 1) then trimmedRoom (putOutTo m (back m 1) 3) else
+    if ltb (firstOf m) (size m 1) then trimmedRoom (putOutTo m (back m 1) 3) else
     putOut m (back m 2)
 
 -- In Am: to its front. In A1in: a hit, nothing moves. In A1out: take it off A1out, make room, enter at the front of Am. Else: make room, enter at the front of A1in.

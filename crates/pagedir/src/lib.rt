@@ -1,23 +1,22 @@
 // The public calls with a C interface: each returns the refusal number, 0 for none, and a refusal leaves every lent word as it was.
 ghost use mathlib.Core.Path.{_≡_};
 ghost use Prim.Native.Nat.{_+_, _*_};
-ghost use Rattle.meaning.specs.Base.{one};
+ghost use Rattle.meaning.specs.Base.{oneIf};
 ghost use Rattle.meaning.specs.Layout.{four};
-ghost use Rattle.meaning.specs.Calls.{audited, formed, wordsFor, looked, reported, curved, requested, replayed};
-ghost use Rattle.meaning.specs.Text.{wrote};
-ghost use Rattle.pagedir.specs.Promises.{Told, ToldAnd, Left, CurveIn, ReadIn, single, sightWords, replyWords, countWords};
+ghost use Rattle.meaning.specs.Calls.{audited, formed, wordsFor, looked, reported, both, curved, requested, replayed};
+ghost use Rattle.meaning.specs.Text.{read, wrote};
+ghost use Rattle.pagedir.specs.Promises.{number, numberAndLine, Told, ToldAnd, Left, single, sightWords, replyWords, countWords, readWords};
 use meaning::Answer;
 use meaning::Curved;
 use meaning::Formed;
 use meaning::Looked;
 use meaning::ReadText;
+use meaning::Refusal;
 use meaning::Replayed;
 use meaning::Reported;
 use meaning::WordsFor;
 use meaning::Written;
-
-// No page and no slot.
-const NONE: u32 = 4294967295;
+use settings::NONE;
 
 // The length that pd_form asks.
 #[no_mangle]
@@ -28,7 +27,7 @@ pub extern "C" fn pd_words(
     second: u32,
     answer: &mut [u32; 1],
 ) -> u32
-    ensures { λ r. ⌜ Told single (wordsFor (four policy capacity first second)) (now (answer .entry)) r (now (answer .exit)) ⌝ }
+    ensures { λ r. ⌜ Told number single (wordsFor (four policy capacity first second)) (now (answer .entry)) r (now (answer .exit)) ⌝ }
 {
     let r = policies::words_for(policy, capacity, first, second);
     match r {
@@ -36,7 +35,7 @@ pub extern "C" fn pd_words(
             answer[0] = words;
             0
         }
-        WordsFor::Refused { number } => number,
+        WordsFor::Refused(refusal) => refusal.number,
     }
 }
 
@@ -54,14 +53,14 @@ pub extern "C" fn pd_form(
     let r = policies::form(policy, capacity, first, second, words);
     match r {
         Formed::Done => 0,
-        Formed::Refused { number } => number,
+        Formed::Refused(refusal) => refusal.number,
     }
 }
 
 // 1 if the words are a sound directory, else 0.
 #[no_mangle]
 pub extern "C" fn pd_audit(words: &[u32]) -> u32
-    ensures { λ r. ⌜ r ≡ one (audited (now (words .entry))) ⌝ }
+    ensures { λ r. ⌜ r ≡ oneIf (audited (now (words .entry))) ⌝ }
 {
     if sound::audit(words) {
         return 1;
@@ -72,7 +71,7 @@ pub extern "C" fn pd_audit(words: &[u32]) -> u32
 // Asks for a page: 1 hit, 2 loaded, 3 swapped; the slot; the page put out, or NONE; the marks cleared.
 #[no_mangle]
 pub extern "C" fn pd_request(words: &mut [u32], page: u32, answer: &mut [u32; 4]) -> u32
-    ensures { λ r. ⌜ ToldAnd replyWords (requested (now (words .entry)) page) (now (answer .entry)) r (now (answer .exit)) (now (words .exit)) ⌝ }
+    ensures { λ r. ⌜ ToldAnd number replyWords (requested (now (words .entry)) page) (now (answer .entry)) r (now (answer .exit)) (now (words .exit)) ⌝ }
 {
     let r = policies::request(words, page);
     match r {
@@ -97,14 +96,14 @@ pub extern "C" fn pd_request(words: &mut [u32], page: u32, answer: &mut [u32; 4]
             answer[3] = cleared;
             0
         }
-        Answer::Refused { number } => number,
+        Answer::Refused(refusal) => refusal.number,
     }
 }
 
 // Replays a trace: hits, loads and swaps go to the answer.
 #[no_mangle]
 pub extern "C" fn pd_replay(words: &mut [u32], trace: &[u32], answer: &mut [u32; 3]) -> u32
-    ensures { λ r. ⌜ ToldAnd countWords (replayed (now (words .entry)) (now (trace .entry))) (now (answer .entry)) r (now (answer .exit)) (now (words .exit)) ⌝ }
+    ensures { λ r. ⌜ ToldAnd number countWords (replayed (now (words .entry)) (now (trace .entry))) (now (answer .entry)) r (now (answer .exit)) (now (words .exit)) ⌝ }
 {
     let r = replay::replay(words, trace);
     match r {
@@ -114,14 +113,14 @@ pub extern "C" fn pd_replay(words: &mut [u32], trace: &[u32], answer: &mut [u32;
             answer[2] = swaps;
             0
         }
-        Replayed::Refused { number } => number,
+        Replayed::Refused(refusal) => refusal.number,
     }
 }
 
 // Where a page is: 0 absent, 1 held, 2 remembered; and its slot, or NONE.
 #[no_mangle]
 pub extern "C" fn pd_look(words: &[u32], page: u32, answer: &mut [u32; 2]) -> u32
-    ensures { λ r. ⌜ Told sightWords (looked (now (words .entry)) page) (now (answer .entry)) r (now (answer .exit)) ⌝ }
+    ensures { λ r. ⌜ Told number sightWords (looked (now (words .entry)) page) (now (answer .entry)) r (now (answer .exit)) ⌝ }
 {
     let r = policies::look(words, page);
     match r {
@@ -140,7 +139,7 @@ pub extern "C" fn pd_look(words: &[u32], page: u32, answer: &mut [u32; 2]) -> u3
             answer[1] = NONE;
             0
         }
-        Looked::Refused { number } => number,
+        Looked::Refused(refusal) => refusal.number,
     }
 }
 
@@ -152,7 +151,7 @@ pub extern "C" fn pd_report(
     result: &mut [u32],
     answer: &mut [u32; 1],
 ) -> u32
-    ensures { λ r. ⌜ ToldAnd single (reported (now (words .entry)) list (now (result .entry))) (now (answer .entry)) r (now (answer .exit)) (now (result .exit)) ⌝ }
+    ensures { λ r. ⌜ ToldAnd number single (reported (now (words .entry)) list (now (result .entry))) (now (answer .entry)) r (now (answer .exit)) (now (result .exit)) ⌝ }
 {
     let r = policies::report(words, list, result);
     match r {
@@ -160,33 +159,33 @@ pub extern "C" fn pd_report(
             answer[0] = pages;
             0
         }
-        Reported::Refused { number } => number,
+        Reported::Refused(refusal) => refusal.number,
     }
 }
 
 // The LRU hits at each capacity from 1 to the largest, and the LRU list at the largest.
 #[no_mangle]
 pub extern "C" fn pd_curve(largest: u32, trace: &[u32], result: &mut [u32], work: &mut [u32]) -> u32
-    ensures { λ r. ⌜ CurveIn (curved largest (now (trace .entry)) (now (result .entry)) (now (work .entry))) r (now (result .exit)) (now (work .exit)) ⌝ }
+    ensures { λ r. ⌜ Left (curved largest (now (trace .entry)) (now (result .entry)) (now (work .entry))) r (both (now (result .exit)) (now (work .exit))) ⌝ }
 {
     let r = replay::curve(largest, trace, result, work);
     match r {
         Curved::Done => 0,
-        Curved::Refused { number } => number,
+        Curved::Refused(refusal) => refusal.number,
     }
 }
 
-// The number of a refusal, and its line in the high half.
-fn refusal_at(number: u32, line: u32) -> u64
-    ensures { λ r. ⌜ r ≡ number + 4294967296 * line ⌝ }
+// The number of a refusal, and what it carries in the high half.
+fn refusal_at(refusal: Refusal) -> u64
+    ensures { λ r. ⌜ r ≡ refusal .number + 4294967296 * refusal .carried ⌝ }
 {
-    (number as u64) + 4294967296 * (line as u64)
+    (refusal.number as u64) + 4294967296 * (refusal.carried as u64)
 }
 
 // Reads a trace text: policy, capacity, first, second and count go to the answer, and the pages to the front of the trace.
 #[no_mangle]
 pub extern "C" fn pd_read(text: &[u8], trace: &mut [u32], answer: &mut [u32; 5]) -> u64
-    ensures { λ r. ⌜ ReadIn (now (text .entry)) (now (trace .entry)) (now (answer .entry)) r (now (trace .exit)) (now (answer .exit)) ⌝ }
+    ensures { λ r. ⌜ ToldAnd numberAndLine readWords (read (now (text .entry)) (now (trace .entry))) (now (answer .entry)) r (now (answer .exit)) (now (trace .exit)) ⌝ }
 {
     let r = trace_text::read(text, trace);
     match r {
@@ -204,7 +203,7 @@ pub extern "C" fn pd_read(text: &[u8], trace: &mut [u32], answer: &mut [u32; 5])
             answer[4] = count;
             0
         }
-        ReadText::Refused { number, line } => refusal_at(number, line),
+        ReadText::Refused(refusal) => refusal_at(refusal),
     }
 }
 
@@ -219,7 +218,7 @@ pub extern "C" fn pd_write(
     text: &mut [u8],
     answer: &mut [u32; 1],
 ) -> u32
-    ensures { λ r. ⌜ ToldAnd single (wrote policy capacity first second (now (trace .entry)) (now (text .entry))) (now (answer .entry)) r (now (answer .exit)) (now (text .exit)) ⌝ }
+    ensures { λ r. ⌜ ToldAnd number single (wrote policy capacity first second (now (trace .entry)) (now (text .entry))) (now (answer .entry)) r (now (answer .exit)) (now (text .exit)) ⌝ }
 {
     let r = trace_text::write(policy, capacity, first, second, trace, text);
     match r {
@@ -227,6 +226,6 @@ pub extern "C" fn pd_write(
             answer[0] = bytes;
             0
         }
-        Written::Refused { number } => number,
+        Written::Refused(refusal) => refusal.number,
     }
 }

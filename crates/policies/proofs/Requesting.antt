@@ -1,6 +1,5 @@
 -- A request on words, from the steps of the policies.
--- Assumes nothing.
-use Prim.Native.Nat.{ℕ, _≤_, _<_}
+use Prim.Native.Nat.{ℕ, _<_}
 use mathlib.Core.Path.{_≡_, refl, sym, ap, _∙_, subst}
 use mathlib.Core.Bool.{Bool, true, false, not}
 use mathlib.Core.List.{List, [], _∷_}
@@ -15,7 +14,7 @@ use Rattle.meaning.specs.declared.Answer.{Answer}
 use Rattle.meaning.specs.declared.Answer.the-variants.{Hit, Loaded, Swapped, Refused}
 use Rattle.meaning.specs.declared.SlotFor.{SlotFor}
 use Rattle.meaning.specs.Neighbours.{NONE}
-use Rattle.meaning.specs.Mem.{Mem, word, decode}
+use Rattle.meaning.specs.Mem.{Mem, decode, capacityOf, firstOf, policyIn, policyOf, secondOf}
 use Rattle.meaning.specs.Room.{Done}
 use Rattle.meaning.specs.Lru.{lru}
 use Rattle.meaning.specs.Clock.{clock}
@@ -24,18 +23,18 @@ use Rattle.meaning.specs.TwoQ.{twoQ}
 use Rattle.meaning.specs.Arc.{arc}
 use Rattle.meaning.specs.Policies.{request}
 use Rattle.meaning.specs.Rules.{sound}
-use Rattle.meaning.specs.Calls.{refuse, audited, answered, onPage, requested, slotOf, slotFor}
+use Rattle.meaning.specs.Calls.{plain, refuse, audited, answered, onPage, requested, slotOf, slotFor}
 use Rattle.meaning.specs.Answers.{requestSays, slotSays}
-use Rattle.meaning.specs.Places.{top, Ready}
-use Rattle.meaning.specs.Kept.{Lru, Clock, Segmented, TwoQ, Arc}
+use Rattle.invariants.specs.Places.{top, Ready}
+use Rattle.invariants.specs.Assumed.{Lru, Clock, Segmented, TwoQ, Arc}
 use Rattle.meaning.proofs.Answer.{the-type}
-use Rattle.meaning.proofs.Lists.{split}
-use Rattle.meaning.proofs.Trip.{repr-words}
+use Rattle.meaning.proofs.Injective.{asStruct}
+use Rattle.invariants.proofs.Trip.{repr-words}
 use Rattle.theorems.proofs.Whole.{lru-whole, clock-whole, segmented-whole, twoQ-whole, arc-whole, request-whole}
-use Rattle.meaning.proofs.Accepted.{accepted}
+use Rattle.invariants.proofs.Accepted.{accepted, fifth}
 use Rattle.sound.proofs.Door.{door}
 use Rattle.sound.proofs.Entry.{is-sound, not-sound}
-use Rattle.meaning.proofs.Back.{whole-sound}
+use Rattle.invariants.proofs.Back.{whole-sound}
 use Rattle.rooms.specs.Rooms.{Ends, Serves, asking}
 use Rattle.policies.specs.Requests.{Stepped, Requested, SlotGiven, Refuses}
 
@@ -60,16 +59,8 @@ stepped {ws} {ws′} {p} {r = r} s hp S o e =
       keeps = subst (λ (v : List ℕ). sound v ≡ true) w (whole-sound (request (decode ws) p .mem) (request-whole (decode ws) p (D .1) hp));
     }
 
--- a number from 1 to 5 that is none of the first four
-five : (x : ℕ) → 1 ≤ x → x ≤ 5 → (x ≡ 1 → ⊥) → (x ≡ 2 → ⊥) → (x ≡ 3 → ⊥) → (x ≡ 4 → ⊥) → x ≡ 5
-five x l h a b c d = split x 1 (λ z _. absurd (a z)) (λ z1 _. split x 2 (λ z _. absurd (b z)) (λ z2 _. split x 3 (λ z _. absurd (c z)) (λ z3 _. split x 4 (λ z _. absurd (d z)) (λ z4 _.
-    split x 5 (λ z _. z) (λ z5 _. absurd (six x l h z1 z2 z3 z4 z5))))))
-  where
-    six : (x : ℕ) → 1 ≤ x → x ≤ 5 → (x ≡ 1 → ⊥) → (x ≡ 2 → ⊥) → (x ≡ 3 → ⊥) → (x ≡ 4 → ⊥) → (x ≡ 5 → ⊥) → ⊥
-    six x l h a b c d e = omega arith
-
-module _ (ws : List ℕ) {x : ℕ} (s : sound ws ≡ true) (ex : x ≡ word ws 0) where
-  policy : x ≡ decode ws .tops 0
+module _ (ws : List ℕ) {x : ℕ} (s : sound ws ≡ true) (ex : x ≡ policyIn ws) where
+  policy : x ≡ policyOf (decode ws)
   policy = ex ∙ door ws s .0 .holds .at (top 0) (omega arith)
 
   ready : {ok : Mem → Type 0} → ok (decode ws) → Ready ws ok
@@ -90,8 +81,8 @@ module _ (ws : List ℕ) {x : ℕ} (s : sound ws ≡ true) (ex : x ≡ word ws 0
   is-five : (x ≡ 1 → ⊥) → (x ≡ 2 → ⊥) → (x ≡ 3 → ⊥) → (x ≡ 4 → ⊥) → x ≡ 5
   is-five a b c d =
       let m = decode ws in
-      let k = accepted (m .tops 0) (m .tops 1) (m .tops 4) (m .tops 5) (door ws s .1 .headed .settings) .policy in
-      five x (omega (arith, k, policy)) (omega (arith, k, policy)) a b c d
+      let k = accepted (policyOf m) (capacityOf m) (firstOf m) (secondOf m) (door ws s .1 .headed .settings) .policy in
+      fifth x (omega (arith, k, policy)) a b c d
 
   is-arc : x ≡ 5 → Arc (decode ws)
   is-arc z = arc-whole (decode ws) (door ws s .1) (sym policy ∙ z)
@@ -117,11 +108,11 @@ module _ (ws : List ℕ) {x : ℕ} (s : sound ws ≡ true) (ex : x ≡ word ws 0
   ready-arc a b c d = ready (is-arc (is-five a b c d))
 
   -- which policy word 0 names, and which it does not
-  test : (n : ℕ) → x ≡ n → eqb (decode ws .tops 0) n ≡ true
-  test n z = eq-eqb (decode ws .tops 0) n (sym policy ∙ z)
+  test : (n : ℕ) → x ≡ n → eqb (policyOf (decode ws)) n ≡ true
+  test n z = eq-eqb (policyOf (decode ws)) n (sym policy ∙ z)
 
-  other : (n k : ℕ) → x ≡ n → (n ≡ k → ⊥) → eqb (decode ws .tops 0) k ≡ false
-  other n k z d = ne-eqb (decode ws .tops 0) k (λ y. d (sym z ∙ policy ∙ y))
+  other : (n k : ℕ) → x ≡ n → (n ≡ k → ⊥) → eqb (policyOf (decode ws)) k ≡ false
+  other n k z d = ne-eqb (policyOf (decode ws)) k (λ y. d (sym z ∙ policy ∙ y))
 
   module _ {p : ℕ} (hp : p < NONE) {ws′ : List ℕ} {r : Answer} where
     -- LRU's step is the request's
@@ -155,12 +146,12 @@ module _ (ws : List ℕ) {x : ℕ} (s : sound ws ≡ true) (ex : x ≡ word ws 0
 
 module _ (ws : List ℕ) {b : Bool} (a : b ≡ audited ws) where
   -- 5: the words are not sound
-  pub unsound : (p : ℕ) → not b ≡ true → Requested ws p (Refused 5) ws
+  pub unsound : (p : ℕ) → not b ≡ true → Requested ws p (Refused (asStruct (plain 5))) ws
   unfolding requested onPage refuse
   unsound p z = let t = not-sound ws a z in record { answer = sym (simp t); memory = sym (simp t) }
 
   -- 6: the page is NONE
-  pub no-page : {p : ℕ} → not b ≡ false → p ≡ NONE → Requested ws p (Refused 6) ws
+  pub no-page : {p : ℕ} → not b ≡ false → p ≡ NONE → Requested ws p (Refused (asStruct (plain 6))) ws
   unfolding requested onPage refuse
   no-page {p} z y = let t = is-sound ws a z in let u = eq-eqb p NONE y in record { answer = sym (simp (t, u)); memory = sym (simp (t, u)) }
 
@@ -184,7 +175,7 @@ pub refuses : (a : Answer) → OneOf (1 ∷ 2 ∷ 3 ∷ []) (tagOf the-type a) �
 refuses (Hit s c) x y z = absurd (none 0 1 2 3 (omega arith) (omega arith) (omega arith) x)
 refuses (Loaded s c) x y z = absurd (none 1 0 2 3 (omega arith) (omega arith) (omega arith) y)
 refuses (Swapped s o c) x y z = absurd (none 2 0 1 3 (omega arith) (omega arith) (omega arith) z)
-refuses (Refused n) x y z = record { number = n; is = refl }
+refuses (Refused r) x y z = record { refusal = r; is = refl }
 
 -- so a refusal is none of the others
 pub never-given : (a : Answer) → Refuses a → OneOf (0 ∷ 1 ∷ 2 ∷ []) (tagOf the-type a) → ⊥

@@ -1,5 +1,4 @@
 -- What `step`, `request` and `slot_for` promise.
--- Assumes nothing.
 use Prim.Native.Nat.{ℕ}
 use mathlib.Core.Path.{_≡_}
 use mathlib.Core.Bool.{true}
@@ -7,6 +6,7 @@ use mathlib.Core.List.{List}
 use Rattle.meaning.specs.declared.Answer.{Answer}
 use Rattle.meaning.specs.declared.Answer.the-variants.{Refused}
 use Rattle.meaning.specs.declared.SlotFor.{SlotFor}
+use Rattle.meaning.specs.declared.Refusal.{Refusal}
 use Rattle.meaning.specs.Mem.{decode}
 use Rattle.meaning.specs.Policies.{request}
 use Rattle.meaning.specs.Rules.{sound}
@@ -32,5 +32,5 @@ pub record SlotGiven (ws : List ℕ) (page : ℕ) (r : SlotFor) (ws′ : List �
 
 -- The answer is a refusal.
 pub record Refuses (a : Answer) : Type 0 where
-  pub number : ℕ
-  pub is : a ≡ Refused number
+  pub refusal : Refusal
+  pub is : a ≡ Refused refusal

@@ -10,8 +10,15 @@ use arc::arc_step;
 use clock::clock_step;
 use lru::lru_step;
 use meaning::Answer;
+use meaning::PAGE_IS_NONE;
 use meaning::SlotFor;
+use meaning::UNSOUND;
 use segmented::segmented_step;
+use settings::CLOCK;
+use settings::LRU;
+use settings::POLICY;
+use settings::SEGMENTED;
+use settings::TWO_Q;
 use two_q::two_q_step;
 
 // A request on a sound directory, by the policy in word 0.
@@ -20,17 +27,17 @@ pub fn step(words: &mut [u32], page: u32) -> Answer
     requires { ⌜ page < 4294967295 ⌝ }
     ensures { λ r. ⌜ Stepped (now (words .entry)) page r (now (words .exit)) ⌝ }
 {
-    let policy = lists::word(words, 0);
-    if policy == 1 {
+    let policy = lists::word(words, POLICY);
+    if policy == LRU {
         return lru_step(words, page);
     }
-    if policy == 2 {
+    if policy == CLOCK {
         return clock_step(words, page);
     }
-    if policy == 3 {
+    if policy == SEGMENTED {
         return segmented_step(words, page);
     }
-    if policy == 4 {
+    if policy == TWO_Q {
         return two_q_step(words, page);
     }
     arc_step(words, page)
@@ -41,23 +48,23 @@ pub fn request(words: &mut [u32], page: u32) -> Answer
     ensures { λ r. ⌜ Requested (now (words .entry)) page r (now (words .exit)) ⌝ }
 {
     if !sound::audit(words) {
-        return Answer::Refused { number: 5 };
+        return Answer::Refused(UNSOUND);
     }
     if page == lists::NONE {
-        return Answer::Refused { number: 6 };
+        return Answer::Refused(PAGE_IS_NONE);
     }
     step(words, page)
 }
 
-// The number of a refusal goes on.
+// A refusal goes on as it is.
 fn refused_slot(a: Answer) -> SlotFor
     requires { ⌜ Refuses a ⌝ }
     ensures { λ r. ⌜ slotSays r ≡ slotOf (requestSays a) ⌝ }
 {
-    let Answer::Refused { number } = a else {
-        return SlotFor::Refused { number: 0 };
+    let Answer::Refused(refusal) = a else {
+        return SlotFor::Refused(UNSOUND);
     };
-    SlotFor::Refused { number: number }
+    SlotFor::Refused(refusal)
 }
 
 // Asks for a page, of which only the slot is wanted: Hit, Loaded and Swapped are met by name, and a refusal leaves early.

@@ -1,3 +1,1 @@
-pub mod Plain
-pub mod Curve
-pub mod Turns
+pub mod Replays

@@ -1,5 +1,4 @@
 -- The program's steps, from the promises of the calls that they make.
--- Assumes nothing.
 use Prim.Native.Nat.{ℕ, _≤_}
 use mathlib.Core.Path.{_≡_, refl, sym, ap, _∙_}
 use mathlib.Core.Bool.{Bool, true, false}
@@ -15,19 +14,21 @@ use Rattle.meaning.specs.declared.Formed.the-variants as formed
 use Rattle.meaning.specs.declared.WordsFor.{WordsFor}
 use Rattle.meaning.specs.declared.WordsFor.the-variants as long
 use Rattle.meaning.specs.declared.Replayed.{Replayed}
+use Rattle.meaning.specs.declared.Refusal.{Refusal}
 use Rattle.meaning.specs.declared.ReadText.{ReadText}
 use Rattle.meaning.specs.declared.ReadText.the-variants as reads
 use Rattle.meaning.specs.Layout.{Settings, four, entriesOf, bitsOf, lengthFor, lengthOf, settingsRefusal}
-use Rattle.meaning.specs.Calls.{Said, gave, Counts, refuse, refusalOf, formed as form, wordsFor, over}
-use Rattle.meaning.specs.Text.{Reading, unread, accepted, readText, readRefused, readGave, readSaid, readLeft}
-use Rattle.meaning.specs.Program.{Five, ended, finished, onward, replayIn, formIn, playIn, programRoom, afterRead, programmed}
-use Rattle.meaning.specs.Answers.{replaySays, formSays, lengthSays, readSays}
-use Rattle.meaning.proofs.Accepted.{few-entries}
+use Rattle.meaning.specs.Calls.{plain, Said, refused, gave, Counts, refuse, refusalOf, formed as form, wordsFor, over}
+use Rattle.meaning.specs.Text.{Accepted, Contents, readText, onText, read}
+use Rattle.meaning.specs.Program.{Five, ended, finished, onward, replayIn, formIn, playIn, programRoom, programmed}
+use Rattle.meaning.specs.Answers.{refusalSays, replaySays, formSays, lengthSays, readSays}
+use Rattle.invariants.proofs.Accepted.{few-entries}
 use Rattle.meaning.proofs.Injective.{case, not-given}
-use Rattle.meaning.proofs.Fresh.{bits-small}
+use Rattle.invariants.proofs.Fresh.{bits-small}
 use Rattle.form_look_report.specs.Forms.{FormedAs, LongAs}
-use Rattle.replay.specs.Turns.{ReplayedAs}
+use Rattle.replay.specs.Replays.{ReplayedAs}
 use Rattle.trace_text.specs.Contracts.{ReadAs}
+use Rattle.trace_text.proofs.OfCalls.{Taken, taken, over-front}
 
 -- ── Replay ──
 
@@ -49,7 +50,7 @@ module _ {p c f s : ℕ} {ws ws′ : List ℕ} {r : Formed} (x : FormedAs p c f 
   after-form e q = q ∙ ap (λ (w : List ℕ). replayIn w pages) (x .memory) ∙ after (case formSays (x .answer) e)
 
   -- Form refused.
-  pub form-ends : {n : ℕ} → r ≡ formed.Refused n → ended n 0 ≡ formIn (four p c f s) ws pages
+  pub form-ends : {q : Refusal} → r ≡ formed.Refused q → ended (refusalSays q) ≡ formIn (four p c f s) ws pages
   form-ends e = after (case formSays (x .answer) e)
 
 -- The words lent to form matter only by their number.
@@ -80,7 +81,7 @@ module _ {p c f s : ℕ} {w : WordsFor} (x : LongAs p c f s w) where
   after-length pages {v} {n} ws e h q = q ∙ form-any (four p c f s) ws (replicate n 0) pages (sym h ∙ sym (length-replicate n 0)) ∙ then pages (case lengthSays (x .answer) e)
 
   -- The settings are refused.
-  pub length-ends : (pages : List ℕ) {n : ℕ} → w ≡ long.Refused n → ended n 0 ≡ playIn (four p c f s) pages
+  pub length-ends : (pages : List ℕ) {q : Refusal} → w ≡ long.Refused q → ended (refusalSays q) ≡ playIn (four p c f s) pages
   length-ends pages e = then pages (case lengthSays (x .answer) e)
 
   -- No directory is longer than 9,232 words.
@@ -89,7 +90,7 @@ module _ {p c f s : ℕ} {w : WordsFor} (x : LongAs p c f s w) where
   long-enough {n} e = go (eqb (settingsRefusal p c f s) 0) refl
     where
       go : (a : Bool) → eqb (settingsRefusal p c f s) 0 ≡ a → n ≤ 9232
-      go false h = absurd (not-given {n = settingsRefusal p c f s} (sym (case lengthSays (x .answer) e ∙ simp h)))
+      go false h = absurd (not-given {r = plain (settingsRefusal p c f s)} (sym (case lengthSays (x .answer) e ∙ simp h)))
       go true h =
           let q : _≡_ {A = Said ℕ} (gave n) (gave (lengthOf (four p c f s))) = case lengthSays (x .answer) e ∙ simp h in
           let k : n ≡ lengthOf (four p c f s) = cc q in
@@ -97,33 +98,20 @@ module _ {p c f s : ℕ} {w : WordsFor} (x : LongAs p c f s w) where
 
 -- ── Read ──
 
--- What an accepted text holds.
-pub record Taken (p c f g n : ℕ) (R : Reading) : Type 0 where
-  pub pages : List ℕ
-  pub is : R ≡ accepted p c f g pages
-  pub many : n ≡ length pages
-
-taken : (R : Reading) {p c f g n : ℕ} → readGave p c f g n ≡ readSaid R → Taken p c f g n R
-taken (unread m l) e = let z : _≡_ {A = ℕ} 0 1 = cc in absurd (omega arith)
-taken (accepted p c f g pages) {p = p′} {c = c′} {f = f′} {g = g′} {n = n} e =
-    let a : p ≡ p′ = cc e in
-    let b : c ≡ c′ = cc e in
-    let d : f ≡ f′ = cc e in
-    let h : g ≡ g′ = cc e in
-    let k : n ≡ length pages = cc e in
-    record { pages = pages; is = λ i. accepted (a i) (b i) (d i) (h i) pages; many = k }
-
-over-front : (ps l : List ℕ) → take (length ps) (over ps l) ≡ ps
-unfolding over
-over-front ps l = take-append-seam ps (drop (length ps) l)
-
 module _ {text before after : List ℕ} {r : ReadText} (room : length before ≡ programRoom) (x : ReadAs text before r after) where
+  -- what follows the text
+  then-text : {a : Said Contents} → readText text (length before) ≡ a → onward a (λ t. playIn (t .settings) (t .pages)) ≡ programmed text
+  unfolding programmed
+  then-text e = ap (λ (a : Said Contents). onward a (λ t. playIn (t .settings) (t .pages))) (sym e ∙ ap (readText text) room)
+
   module _ {p c f g n : ℕ} (e : r ≡ reads.Accepted p c f g n) where
     found : Taken p c f g n (readText text (length before))
-    found = taken _ (case readSays (x .answer) e)
+    unfolding read
+    found = taken _ before (case readSays (x .answer) e)
 
     left : after ≡ over (found .pages) before
-    left = x .memory ∙ ap (λ (R : Reading). readLeft R before) (found .is)
+    unfolding read
+    left = x .memory ∙ ap (λ (R : Said Contents). onText R before .left) (found .is)
 
     -- The pages stand in the buffer.
     pub stored : length after ≡ length before → n ≤ length after
@@ -132,17 +120,16 @@ module _ {text before after : List ℕ} {r : ReadText} (room : length before ≡
 
     -- The text is accepted, and v is what its pages make.
     pub after-read : {v : Five} → v ≡ playIn (four p c f g) (take n after) → v ≡ programmed text
-    unfolding programmed
     after-read q =
         q
         ∙ ap (playIn (four p c f g)) (ap (λ (k : ℕ). take k after) (found .many) ∙ ap (take (length (found .pages))) left ∙ over-front (found .pages) before)
-        ∙ sym (ap afterRead (ap (readText text) (sym room) ∙ found .is))
+        ∙ then-text (found .is)
 
   -- The text is refused.
-  pub read-ends : {n l : ℕ} → r ≡ reads.Refused n l → ended n l ≡ programmed text
-  unfolding programmed
-  read-ends {n} {l} e = refused-as (readText text (length before)) (case readSays (x .answer) e) ∙ ap (λ (k : ℕ). afterRead (readText text k)) room
+  pub read-ends : {q : Refusal} → r ≡ reads.Refused q → ended (refusalSays q) ≡ programmed text
+  unfolding read refuse
+  read-ends {q} e = refused-as (readText text (length before)) refl (case readSays (x .answer) e)
     where
-      refused-as : (R : Reading) → readRefused n l ≡ readSaid R → ended n l ≡ afterRead R
-      refused-as (unread m k) q = let a : n ≡ m = cc q in let b : l ≡ k = cc q in λ i. ended (a i) (b i)
-      refused-as (accepted p c f g ps) q = let z : _≡_ {A = ℕ} 0 1 = cc in absurd (omega arith)
+      refused-as : (R : Said Contents) → readText text (length before) ≡ R → refused (refusalSays q) ≡ onText R before .said → ended (refusalSays q) ≡ programmed text
+      refused-as (refused k) d y = let z : refusalSays q ≡ k = cc y in ap ended z ∙ then-text d
+      refused-as (gave t) d y = absurd (not-given y)

@@ -3,10 +3,12 @@ ghost use mathlib.Core.Path.{_≡_};
 ghost use Prim.Native.Nat.{_≤_};
 ghost use lib.ListN.{length, take};
 ghost use Rattle.meaning.specs.Layout.{four};
+ghost use Rattle.meaning.specs.Answers.{refusalSays};
 ghost use Rattle.meaning.specs.Program.{ended, replayIn, formIn, playIn, programRoom, programmed, fiveLines};
 ghost use Rattle.replay_program.specs.Numbers.{fiveOf};
 use meaning::Formed;
 use meaning::ReadText;
+use meaning::Refusal;
 use meaning::Replayed;
 use meaning::WordsFor;
 
@@ -19,13 +21,13 @@ struct Five {
     swaps: u32,
 }
 
-// A refusal ends the program: unused numbers are 0.
-fn ended_by(number: u32, line: u32) -> Five
-    ensures { λ r. ⌜ fiveOf r ≡ ended number line ⌝ }
+// A refusal ends the program, with its number and the line that it carries: unused numbers are 0.
+fn ended_by(refusal: Refusal) -> Five
+    ensures { λ r. ⌜ fiveOf r ≡ ended (refusalSays refusal) ⌝ }
 {
     Five {
-        refused: number,
-        line,
+        refused: refusal.number,
+        line: refusal.carried,
         hits: 0,
         loads: 0,
         swaps: 0,
@@ -45,7 +47,7 @@ fn replay_in(words: &mut [u32], pages: &[u32]) -> Five
             loads,
             swaps,
         },
-        Replayed::Refused { number } => ended_by(number, 0),
+        Replayed::Refused(refusal) => ended_by(refusal),
     }
 }
 
@@ -63,7 +65,7 @@ fn form_in(
     let f = policies::form(policy, capacity, first, second, words);
     match f {
         Formed::Done => replay_in(words, pages),
-        Formed::Refused { number } => ended_by(number, 0),
+        Formed::Refused(refusal) => ended_by(refusal),
     }
 }
 
@@ -89,7 +91,7 @@ fn play_in(
             &mut words[..n as usize],
             pages,
         ),
-        WordsFor::Refused { number } => ended_by(number, 0),
+        WordsFor::Refused(refusal) => ended_by(refusal),
     }
 }
 
@@ -114,7 +116,7 @@ fn replay_text(text: &[u8], trace: &mut [u32], words: &mut [u32]) -> Five
             words,
             &trace[..count as usize],
         ),
-        ReadText::Refused { number, line } => ended_by(number, line),
+        ReadText::Refused(refusal) => ended_by(refusal),
     }
 }
 
@@ -129,14 +131,21 @@ fn write_five(r: Five, out: &mut [u8; 96]) -> usize
     text_lines::put_line(out, d, b"swaps=", r.swaps)
 }
 
+// The whole program, from the text that was read to the bytes that are written: their length, at the front of a buffer that they always fit in.
+fn answer(text: &[u8], out: &mut [u8; 96]) -> usize
+    ensures { λ n. ⌜ (take n (now (out .exit)) ≡ fiveLines (programmed (now (text .entry)))) × (n ≤ length (now (out .exit))) ⌝ }
+{
+    let mut trace = [0u32; 9362];
+    let mut words = [0u32; 9232];
+    let five = replay_text(text, &mut trace, &mut words);
+    write_five(five, out)
+}
+
 // Reads standard input as far as the byte that makes a text too long, and writes the five lines.
 fn main() {
     let mut text = io::large_buffer();
     let n = io::read_full(0, &mut text);
-    let mut trace = [0u32; 9362];
-    let mut words = [0u32; 9232];
-    let five = replay_text(&text[..n], &mut trace, &mut words);
     let mut out = [0u8; 96];
-    let k = write_five(five, &mut out);
+    let k = answer(&text[..n], &mut out);
     io::write_all(1, &out[..k]);
 }

@@ -1,16 +1,14 @@
 -- The back of a list, and entries of a directory with lists: they can be moved and removed.
--- Assumes nothing.
 use Prim.Native.Nat.{ℕ, _≤_}
 use mathlib.Core.Path.{_≡_, sym, ap, _∙_, subst}
 use mathlib.Core.Bool.{Bool, true, false}
 use mathlib.Core.List.{List}
 use mathlib.Core.Logic.{inl}
 use native.Mathlib.Omega.{arith}
-use Rattle.meaning.specs.Mem.{Mem, full, size, back, clear}
+use Rattle.meaning.specs.Mem.{Mem, full, back, clear}
 use Rattle.meaning.specs.Room.{asItIs, putOut, putOutTo}
 use Rattle.meaning.specs.Lru.{lruRoom}
-use Rattle.meaning.specs.Places.{Repr, Ready, Turns, Says, Any}
-use Rattle.meaning.specs.Proper.{Proper}
+use Rattle.invariants.specs.Places.{Repr, Ready, Turns, Says, Any}
 use Rattle.theorems.proofs.Operations.{within, paged}
 use Rattle.theorems.proofs.Counts.{back-list}
 use Rattle.lists.specs.Asked.{OnList, Kept}
@@ -19,13 +17,9 @@ use Rattle.rooms.specs.declared.Freed.{Freed}
 use Rattle.rooms.specs.Rooms.{Frees, outOf, outTo, backOut, backTo, backGone, Lined, HasBack, Evicts}
 use Rattle.rooms.proofs.Rooming.{frees-as}
 
--- the back of a list that is not empty is on it
-pub back-of : (m : Mem) → Proper m → (k : ℕ) → 1 ≤ k → 1 ≤ size m k → m .lists (back m k) ≡ k
-back-of m P = back-list m (P .indexed) (P .ordered)
-
 -- an entry that is on a list is in its order
 pub on-list : (m : Mem) → Lined m → (e : ℕ) → (m .lists e ≡ 0 → ⊥) → OnList e m
-on-list m L e u = let o = L .ordered .listed e u in record { within = within m (L .indexed) e u; four = L .indexed .fine .four (m .lists e) e o; on = inl o }
+on-list m L e u = let o = L .ordered .listed e u in record { within = within m (L .indexed) e u; range = L .indexed .fine .range (m .lists e) e o; on = inl o }
 
 -- and on its page's chain
 pub kept : (m : Mem) → Lined m → (e : ℕ) → (m .lists e ≡ 0 → ⊥) → Kept e m

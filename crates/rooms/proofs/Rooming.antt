@@ -1,5 +1,4 @@
 -- Room for a page and what comes in, from what the layer promises: over any entry, list and room.
--- Assumes nothing.
 use Prim.Native.Nat.{ℕ, _<_}
 use mathlib.Core.Path.{_≡_, refl, sym, ap₂, _∙_, subst}
 use mathlib.Core.List.{List}
@@ -10,12 +9,12 @@ use Rattle.meaning.specs.declared.Answer.{Answer}
 use Rattle.meaning.specs.declared.Answer.the-variants.{Hit, Loaded, Swapped}
 use Rattle.meaning.specs.Base.{if_then_else_}
 use Rattle.meaning.specs.Neighbours.{NONE}
-use Rattle.meaning.specs.Layout.{cellAt}
-use Rattle.meaning.specs.Mem.{Mem, word, held, full, freeSlot, toFront, moveTo, clear, enter}
+use Rattle.meaning.specs.Layout.{cellAt, pageCol, slotCol}
+use Rattle.meaning.specs.Mem.{Mem, word, held, full, freeSlot, toFront, moveTo, clear, enter, capacityIn, entryCount}
 use Rattle.meaning.specs.Room.{hit, loaded, swapped, Done, Room, asItIs, putOut, putOutTo, hitAt, load, enters, returns}
 use Rattle.meaning.specs.Calls.{gave}
 use Rattle.meaning.specs.Answers.{requestSays}
-use Rattle.meaning.specs.Places.{top, cell, page, slot, Repr, Ready, Turns, Says, Any}
+use Rattle.invariants.specs.Places.{top, cell, page, slot, Repr, Ready, Turns, Says, Any}
 use Rattle.lists.specs.Asked.{OnList, Kept}
 use Rattle.lists.specs.Asked as asked
 use Rattle.lists.specs.Told.{Gives}
@@ -23,7 +22,7 @@ use Rattle.rooms.specs.declared.Freed.{Freed}
 use Rattle.rooms.specs.Rooms.{Ends, Serves, Clears, Frees, filling, given, entering, returning, hitFront, loading, outOf, outTo, Then}
 
 -- whether C are held
-pub full-says : {ws : List ℕ} {c n : ℕ} → c ≡ word ws 1 → Says ws (Gives held n) → Says ws (Gives full (leb c n))
+pub full-says : {ws : List ℕ} {c n : ℕ} → c ≡ capacityIn ws → Says ws (Gives held n) → Says ws (Gives full (leb c n))
 unfolding full
 full-says e s = record { of = λ m R. record { is = ap₂ leb (e ∙ R .holds .at (top 1) (omega arith)) (s .of m R .is) } }
 
@@ -34,7 +33,7 @@ pub frees-none : {ws : List ℕ} {s : ℕ} → Says ws (Gives freeSlot s) → Fr
 unfolding asItIs
 frees-none a = record { to = λ m R o. record { repr = R; slot = a .of m R .is; out = refl } }
 
-module _ {ws ws′ : List ℕ} {e s x : ℕ} (es : s ≡ word ws (cellAt e 2)) (ex : x ≡ word ws (cellAt e 0)) where
+module _ {ws ws′ : List ℕ} {e s x : ℕ} (es : s ≡ word ws (cellAt e slotCol)) (ex : x ≡ word ws (cellAt e pageCol)) where
   -- an entry put out and removed
   pub frees-out : Turns ws ws′ (Kept e) (clear e) → Frees ws ws′ (Kept e) (outOf e) (record { slot = s; out = x })
   unfolding outOf putOut
@@ -72,7 +71,7 @@ says-swapped f c z =
 
 module _ {ws ws′ : List ℕ} {r : Answer} (f : Freed) where
   -- a new page
-  pub serves-enter : {p : ℕ} (j : ℕ) → Turns ws ws′ (asked.Room p) (enter p j (f .slot)) → requestSays r ≡ gave (loading f 0) → Serves ws ws′ (asked.Room p) (given f (entering p j)) r
+  pub serves-enter : {p : ℕ} (j : ℕ) → Turns ws ws′ (asked.Admits p) (enter p j (f .slot)) → requestSays r ≡ gave (loading f 0) → Serves ws ws′ (asked.Admits p) (given f (entering p j)) r
   unfolding given entering enters load loading
   serves-enter j t e = record { to = λ m R o. record { repr = t .to m R o; says = e } }
 
@@ -82,12 +81,12 @@ module _ {ws ws′ : List ℕ} {r : Answer} (f : Freed) where
   serves-return j t e = record { to = λ m R o. record { repr = t .to m R o; says = e } }
 
 -- a hit
-pub says-hit : {ws : List ℕ} {e s : ℕ} → s ≡ word ws (cellAt e 2) → (m : Mem) → Repr ws m → e < m .tops 2 → (after : Mem) → requestSays (Hit s 0) ≡ gave (hitAt m e after .reply)
+pub says-hit : {ws : List ℕ} {e s : ℕ} → s ≡ word ws (cellAt e slotCol) → (m : Mem) → Repr ws m → e < entryCount m → (after : Mem) → requestSays (Hit s 0) ≡ gave (hitAt m e after .reply)
 unfolding hitAt
 says-hit {e = e} es m R h after = let k = es ∙ R .holds .at (cell slot e) h in λ i. gave (record { kind = hit; slot = k i; out = NONE; cleared = 0 })
 
 -- a hit on an entry that goes to the front of list j
-pub serves-front : {ws ws′ : List ℕ} {e s : ℕ} (j : ℕ) → s ≡ word ws (cellAt e 2) → Turns ws ws′ (OnList e) (toFront e j) → Serves ws ws′ (OnList e) (hitFront e j) (Hit s 0)
+pub serves-front : {ws ws′ : List ℕ} {e s : ℕ} (j : ℕ) → s ≡ word ws (cellAt e slotCol) → Turns ws ws′ (OnList e) (toFront e j) → Serves ws ws′ (OnList e) (hitFront e j) (Hit s 0)
 unfolding hitFront hitAt
 serves-front {e = e} j es t = record { to = λ m R o. record { repr = t .to m R o; says = unfold hitAt in says-hit es m R (o .within) (toFront e j m) } }
 

@@ -1,87 +1,67 @@
 -- Room made leaves what a page that comes in asks for: over any step that makes room.
--- Assumes nothing.
 use Prim.Native.Nat.{ℕ, _+_, _*_, _≤_, _<_}
 use mathlib.Core.Path.{_≡_, sym, ap, _∙_}
 use mathlib.Core.Bool.{true, false}
 use mathlib.Core.List.{List}
 use native.Mathlib.Omega.{arith}
-use lib.Dec.{leb, ltb}
+use lib.Dec.{ltb}
 use lib.ListN.{length}
-use borrow.Author.Tests.{lt-ltb, le-ltb, leb-true, leb-false}
-use Rattle.meaning.specs.declared.Found.{Found}
-use Rattle.meaning.specs.declared.Found.the-variants.{At, Nothing}
-use Rattle.meaning.specs.Base.{one}
+use borrow.Author.Tests.{lt-ltb, le-ltb, leb-true}
+use Rattle.index.specs.declared.Found.{Found}
+use Rattle.index.specs.declared.Found.the-variants.{At, Nothing}
 use Rattle.meaning.specs.Neighbours.{NONE}
-use Rattle.meaning.specs.Layout.{isHeld}
-use Rattle.meaning.specs.Mem.{Mem, word, entryOf, listOn, held, full, size, back, lowest}
+use Rattle.meaning.specs.Layout.{isHeld, cellAt, listCol}
+use Rattle.meaning.specs.Mem.{Mem, word, entryOf, listOn, held, full, size, back, lowest, capacityOf, entryCount}
 use Rattle.meaning.specs.Room.{Room, asItIs}
 use Rattle.meaning.specs.Lru.{lruRoom}
-use Rattle.meaning.specs.Places.{top, Repr, Ready, Says}
-use Rattle.meaning.specs.Proper.{Indexed, Ordered, Proper}
-use Rattle.meaning.proofs.Numbers.{by-test, tally-le}
-use Rattle.theorems.specs.Sizes.{Four}
-use Rattle.theorems.specs.Turn.{Out}
+use Rattle.invariants.specs.Places.{top, Repr, Ready, Says, cell, list}
+use Rattle.invariants.specs.Proper.{Indexed, Proper}
+use Rattle.theorems.specs.Goes.{Out, Made}
 use Rattle.theorems.proofs.Operations.{lowest-free}
 use Rattle.theorems.proofs.Rooms.{list-is}
 use Rattle.theorems.proofs.Counts.{held-sizes, spare}
-use Rattle.theorems.proofs.Turning.{held1, out-none, out-off}
+use Rattle.theorems.proofs.Lru.{lru-room}
 use Rattle.lists.specs.Asked.{OnList}
 use Rattle.lists.specs.Asked as asked
 use Rattle.lists.specs.Told.{GivesOf, Answers}
 use Rattle.lists.proofs.Finding.{FoundAt, found-at, FoundNone, found-none}
 use Rattle.rooms.specs.Rooms.{Lined, HasBack, Evicts, Then}
-use Rattle.rooms.proofs.Backs.{back-of, on-list, back-on}
+use Rattle.rooms.proofs.Backs.{on-list, back-on}
 
 -- all that a directory keeps of its pages and lists
 pub lined : {m : Mem} → Proper m → Lined m
-lined P = record { indexed = P .indexed; ordered = P .ordered }
+lined P = record { indexed = P .seated .indexed; ordered = P .ordered }
 
 -- so does one where room was made
 pub out-lined : {k j : ℕ} {m : Mem} {r : Room} → Out k j m r → Lined (r .mem)
-out-lined X = record { indexed = X .vacant .indexed; ordered = X .vacant .ordered }
+out-lined X = record { indexed = X .vacant .gap .indexed; ordered = X .vacant .ordered }
 
 -- in which a ghost stays on its list
 pub out-ghost : {k j i : ℕ} {m : Mem} {r : Room} → Out k j m r → (e : ℕ) → m .lists e ≡ i → (i ≡ 0 → ⊥) → isHeld i ≡ false → OnList e (r .mem)
 out-ghost {r = r} X e l nz g = on-list (r .mem) (out-lined X) e (λ y. nz (sym (X .stays e (ap isHeld l ∙ g) .0 ∙ l) ∙ y))
 
--- the pages on the four lists
-unfoldable pub all-four : Mem → ℕ
-all-four m = size m 1 + size m 2 + size m 3 + size m 4
-
--- a directory with fewer pages than entries has room for a page that it does not have
-pub space-in : (n : Mem) → Indexed n → Ordered n → all-four n < n .tops 2 → (p : ℕ) → ((i : ℕ) → n .pages i ≡ p → ⊥) → asked.Room p n
-unfolding all-four
-space-in n I O few p absent =
-    let f = spare n I O few in
+-- room that is made is room for a page that the directory does not have, where it leaves fewer pages than entries
+pub space-made : {sizes : Mem → Type 0} {m : Mem} {r : Room} → Made sizes m r → (p : ℕ) → p < NONE → ((i : ℕ) → m .pages i ≡ p → ⊥)
+    → (sizes (r .mem) → size (r .mem) 1 + size (r .mem) 2 + size (r .mem) 3 + size (r .mem) 4 < entryCount m) → asked.Admits p (r .mem)
+space-made {r = r} D p hp absent few =
+    let n = r .mem in let W = D .vacant in
+    let f = spare n (W .gap .indexed) (W .ordered) (omega (arith, few (D .fits), ap (λ (g : ℕ → ℕ). g 2) (D .quiet .tops))) in
     let k = lowest-free n (f .0) (f .1) (f .2) in
-    record { fresh = record { bare = record { within = k .0; none = O .idle (lowest n) (k .1); absent = absent }; idle = k .1 } }
+    record { fresh = record { bare = record { within = k .0; none = W .ordered .idle (lowest n) (k .1); absent = λ i z. absent i (D .makes .pages p hp i z) }; idle = k .1 } }
 
--- which is room where nothing is put out
-pub space-as : (p : ℕ) (n : Mem) → asked.Room p n → asked.Room p (asItIs n .mem)
+-- room for a page is room where nothing is put out
+pub space-as : (p : ℕ) (n : Mem) → asked.Admits p n → asked.Admits p (asItIs n .mem)
 unfolding asItIs
 space-as p n k = k
 
--- so has one where room was made
-pub space-out : {k j : ℕ} {m : Mem} {r : Room} → Out k j m r → (p : ℕ) → p < NONE → ((i : ℕ) → m .pages i ≡ p → ⊥) → (Four k j m (r .mem) → all-four (r .mem) < m .tops 2) → asked.Room p (r .mem)
-unfolding all-four
-space-out {r = r} X p hp absent few =
-    let t = ap (λ (g : ℕ → ℕ). g 2) (X .quiet .tops) in
-    space-in (r .mem) (X .vacant .indexed) (X .vacant .ordered) (omega (arith, few (X .four), t)) p (λ i z. absent i (X .makes .pages p hp i z))
-
 -- LRU and segmented LRU, which have no ghosts and as many entries as C, can make room
-pub lru-space : (m : Mem) → Proper m → m .tops 2 ≡ m .tops 1 → (size m 3 ≡ 0) × (size m 4 ≡ 0) → size m 2 < m .tops 1
-    → (p : ℕ) → p < NONE → ((i : ℕ) → m .pages i ≡ p → ⊥) → Then (Evicts 1) lruRoom (asked.Room p) m
-unfolding lruRoom full one all-four
-lru-space m P all bare under p hp absent =
-    let two = held-sizes m (P .indexed) (P .ordered) in
-    let most : held m ≤ m .tops 1 = unfold held in omega (arith, all, tally-le (m .tops 2) (λ i. isHeld (m .lists i))) in
-    record {
-      asks = record { lined = lined P; some = λ t. omega (arith, leb-true (m .tops 1) (held m) t, two, under) };
-      leaves = by-test (leb (m .tops 1) (held m))
-          (λ t. simp t (space-out (out-off m P (back m 1) 1 (back-of m P 1 (omega arith) (omega (arith, leb-true (m .tops 1) (held m) t, two, under))) held1) p hp absent
-          (λ F. omega (arith, F, two, most, all, bare))))
-          (λ t. simp t (space-out (out-none m P most) p hp absent (λ F. omega (arith, F, two, leb-false (m .tops 1) (held m) t, all, bare))));
-    }
+pub lru-space : (m : Mem) → Proper m → entryCount m ≡ capacityOf m → (size m 3 ≡ 0) × (size m 4 ≡ 0) → size m 2 < capacityOf m
+    → (p : ℕ) → p < NONE → ((i : ℕ) → m .pages i ≡ p → ⊥) → Then (Evicts 1) lruRoom (asked.Admits p) m
+unfolding full
+lru-space m P all bare under p hp absent = record {
+  asks = record { lined = lined P; some = λ t. omega (arith, leb-true (capacityOf m) (held m) t, held-sizes m (P .seated .indexed) (P .ordered), under) };
+  leaves = space-made (lru-room m P all bare under) p hp absent (λ L. omega (arith, L, all));
+}
 
 -- ── Lists that are over a size ──
 
@@ -123,6 +103,10 @@ module _ {ws : List ℕ} {p : ℕ} {r : Found} (a : Says ws (Answers p r)) where
   -- the words of the entry may be read
   pub found-room : {ok : Mem → Type 0} {e b : ℕ} → r ≡ At e b → Ready ws ok → 16 + 8 * e + 8 ≤ length ws
   found-room z o = omega (arith, o .repr .holds .size, found-entry z (o .mem) (o .repr) .hung .within)
+
+  -- its list is what its word says
+  pub found-list : {e b j : ℕ} → r ≡ At e b → j ≡ word ws (cellAt e listCol) → (m : Mem) → Repr ws m → m .lists e ≡ j
+  found-list {e} z ej m R = sym (ej ∙ R .holds .at (cell list e) (found-entry z m R .hung .within))
 
   -- it is on a list
   pub hits : {e b : ℕ} → r ≡ At e b → p < NONE → (m : Mem) → Repr ws m → Lined m → Hits p e m

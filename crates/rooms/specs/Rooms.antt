@@ -1,5 +1,4 @@
 -- What making room and filling it ask of a directory, and what they promise.
--- Assumes nothing.
 use Prim.Native.Nat.{ℕ, _≤_}
 use mathlib.Core.Path.{_≡_}
 use mathlib.Core.Bool.{true}
@@ -12,8 +11,8 @@ use Rattle.meaning.specs.Mem.{Mem, size, back, full, toFront, clear}
 use Rattle.meaning.specs.Room.{loaded, swapped, Reply, Done, Room, putOut, putOutTo, hitAt, load, enters, returns}
 use Rattle.meaning.specs.Calls.{gave}
 use Rattle.meaning.specs.Answers.{requestSays}
-use Rattle.meaning.specs.Places.{Repr}
-use Rattle.meaning.specs.Proper.{Indexed, Ordered}
+use Rattle.invariants.specs.Places.{Repr}
+use Rattle.invariants.specs.Proper.{Indexed, Ordered}
 use Rattle.lists.specs.Asked.{OnList}
 use Rattle.rooms.specs.declared.Freed.{Freed}
 

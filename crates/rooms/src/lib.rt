@@ -6,12 +6,15 @@ ghost use Rattle.meaning.specs.Room.{asItIs};
 ghost use Rattle.meaning.specs.Lru.{lruRoom};
 ghost use Rattle.meaning.specs.Calls.{gave};
 ghost use Rattle.meaning.specs.Answers.{requestSays};
-ghost use Rattle.meaning.specs.Places.{Ready, Turns, Says, Any};
-ghost use Rattle.lists.specs.Asked.{OnList, Kept, Room};
+ghost use Rattle.invariants.specs.Places.{Ready, Turns, Says, Any};
+ghost use Rattle.lists.specs.Asked.{OnList, Kept, Admits};
 ghost use Rattle.lists.specs.Told.{Gives};
 ghost use Rattle.rooms.specs.Rooms.{Serves, Frees, filling, given, entering, returning, hitFront, loading, outOf, outTo, backOut, backTo, backGone, HasBack, Evicts, Then};
 use lists::NONE;
 use meaning::Answer;
+use settings::CAPACITY;
+use settings::PAGE;
+use settings::SLOT;
 
 // The slot that is free now, and the page put out of it, or NONE.
 pub struct Freed {
@@ -24,7 +27,7 @@ pub fn full(words: &[u32]) -> bool
     requires { ⌜ Ready (now words) Any ⌝ }
     ensures { λ r. ⌜ Says (now (words .entry)) (Gives full r) ⌝ }
 {
-    let c = lists::word(words, 1);
+    let c = lists::word(words, CAPACITY);
     let n = lists::held(words);
     c <= n
 }
@@ -43,8 +46,8 @@ pub fn put_out(words: &mut [u32], e: u32) -> Freed
     requires { ⌜ Ready (now words) (Kept e) ⌝ }
     ensures { λ r. ⌜ Frees (now (words .entry)) (now (words .exit)) (Kept e) (outOf e) r ⌝ }
 {
-    let s = lists::cell(words, e, 2);
-    let out = lists::cell(words, e, 0);
+    let s = lists::cell(words, e, SLOT);
+    let out = lists::cell(words, e, PAGE);
     lists::remove(words, e);
     Freed { slot: s, out: out }
 }
@@ -55,8 +58,8 @@ fn put_out_to(words: &mut [u32], e: u32, j: u32) -> Freed
     requires { ⌜ (1 ≤ j) × (j ≤ 4) ⌝ }
     ensures { λ r. ⌜ Frees (now (words .entry)) (now (words .exit)) (OnList e) (outTo e j) r ⌝ }
 {
-    let s = lists::cell(words, e, 2);
-    let out = lists::cell(words, e, 0);
+    let s = lists::cell(words, e, SLOT);
+    let out = lists::cell(words, e, PAGE);
     lists::move_to(words, e, j, NONE);
     Freed { slot: s, out: out }
 }
@@ -121,9 +124,9 @@ pub fn answer(f: Freed, cleared: u32) -> Answer
 
 // Has a new page enter at the front of list j, in the slot that is free.
 pub fn enters(words: &mut [u32], page: u32, j: u32, f: Freed) -> Answer
-    requires { ⌜ Ready (now words) (Room page) ⌝ }
+    requires { ⌜ Ready (now words) (Admits page) ⌝ }
     requires { ⌜ (page < 4294967295) × (1 ≤ j) × (j ≤ 4) ⌝ }
-    ensures { λ r. ⌜ Serves (now (words .entry)) (now (words .exit)) (Room page) (given f (entering page j)) r ⌝ }
+    ensures { λ r. ⌜ Serves (now (words .entry)) (now (words .exit)) (Admits page) (given f (entering page j)) r ⌝ }
 {
     lists::enter(words, page, j, f.slot);
     answer(f, 0)
@@ -145,7 +148,7 @@ pub fn hit_front(words: &mut [u32], e: u32, j: u32) -> Answer
     requires { ⌜ (1 ≤ j) × (j ≤ 4) ⌝ }
     ensures { λ r. ⌜ Serves (now (words .entry)) (now (words .exit)) (OnList e) (hitFront e j) r ⌝ }
 {
-    let s = lists::cell(words, e, 2);
+    let s = lists::cell(words, e, SLOT);
     lists::to_front(words, e, j);
     Answer::Hit {
         slot: s,
@@ -155,9 +158,9 @@ pub fn hit_front(words: &mut [u32], e: u32, j: u32) -> Answer
 
 // Makes room as LRU does; the page enters at the front of list 1.
 pub fn enter_lru(words: &mut [u32], page: u32) -> Answer
-    requires { ⌜ Ready (now words) (Then (Evicts 1) lruRoom (Room page)) ⌝ }
+    requires { ⌜ Ready (now words) (Then (Evicts 1) lruRoom (Admits page)) ⌝ }
     requires { ⌜ page < 4294967295 ⌝ }
-    ensures { λ r. ⌜ Serves (now (words .entry)) (now (words .exit)) (Then (Evicts 1) lruRoom (Room page)) (filling lruRoom (entering page 1)) r ⌝ }
+    ensures { λ r. ⌜ Serves (now (words .entry)) (now (words .exit)) (Then (Evicts 1) lruRoom (Admits page)) (filling lruRoom (entering page 1)) r ⌝ }
 {
     let f = lru_room(words);
     enters(words, page, 1, f)

@@ -1,38 +1,37 @@
 -- Segmented LRU's step, from its parts.
--- Assumes nothing.
 use Prim.Native.Nat.{ℕ, _≤_, _<_}
-use mathlib.Core.Path.{_≡_, sym, ap, _∙_, subst}
-use mathlib.Core.Bool.{true, false}
+use mathlib.Core.Path.{_≡_, sym, _∙_, subst}
+use mathlib.Core.Bool.{true}
 use mathlib.Core.List.{List}
 use native.Mathlib.Omega.{arith}
 use borrow.Author.Tests.{eq-eqb, ne-eqb}
 use Rattle.meaning.specs.declared.Answer.{Answer}
-use Rattle.meaning.specs.declared.Found.{Found}
-use Rattle.meaning.specs.declared.Found.the-variants.{At, Nothing}
+use Rattle.index.specs.declared.Found.{Found}
+use Rattle.index.specs.declared.Found.the-variants.{At, Nothing}
 use Rattle.meaning.specs.Neighbours.{NONE}
-use Rattle.meaning.specs.Layout.{isHeld, cellAt}
-use Rattle.meaning.specs.Mem.{Mem, word, size, back, listOn, toFront}
+use Rattle.meaning.specs.Layout.{isHeld, cellAt, listCol}
+use Rattle.meaning.specs.Mem.{Mem, word, size, back, listOn, toFront, firstIn}
 use Rattle.meaning.specs.Room.{hitAt}
 use Rattle.meaning.specs.Lru.{lruRoom}
 use Rattle.meaning.specs.Segmented.{spill, segmented}
-use Rattle.meaning.specs.Places.{cell, list, Repr, Ready, Turns, Says}
-use Rattle.meaning.specs.Kept.{Segmented}
-use Rattle.meaning.proofs.Lists.{split, no-true}
+use Rattle.invariants.specs.Places.{list, Repr, Ready, Turns, Says}
+use Rattle.invariants.specs.Assumed.{Segmented}
+use Rattle.invariants.proofs.Lists.{split, no-true}
 use Rattle.theorems.proofs.Rooms.{list-none}
-use Rattle.theorems.proofs.Counts.{unlisted}
-use Rattle.theorems.proofs.Turning.{held1, held2, not3, not4, front-turn}
+use Rattle.theorems.proofs.Segmented.{three, four}
+use Rattle.theorems.proofs.Going.{held1, held2, front-goes}
 use Rattle.lists.specs.Asked.{OnList}
 use Rattle.lists.specs.Asked as asked
 use Rattle.lists.specs.Told.{GivesOf, Answers}
 use Rattle.rooms.specs.Rooms.{Serves, asking, filling, entering, hitFront, Lined, Evicts, Then, Fronts}
-use Rattle.segmented.specs.Steps.{hitSpill}
+use Rattle.segmented.specs.Inner.{hitSpill}
 use Rattle.rooms.proofs.Rooming.{serves-as}
 use Rattle.rooms.proofs.Backs.{keeps}
-use Rattle.rooms.proofs.Spaces.{lined, lru-space, is-over, not-over, found-entry, hits, found-nothing}
+use Rattle.rooms.proofs.Spaces.{lined, lru-space, is-over, not-over, found-list, hits, found-nothing}
 
 -- ── Q spills ──
 
-module _ {ws : List ℕ} {n first : ℕ} (s : Says ws (GivesOf size 2 n)) (ef : first ≡ word ws 4) where
+module _ {ws : List ℕ} {n first : ℕ} (s : Says ws (GivesOf size 2 n)) (ef : first ≡ firstIn ws) where
   -- Q is not over first, and nothing moves
   pub spill-none : n ≤ first → Turns ws ws Lined spill
   unfolding spill
@@ -71,38 +70,34 @@ held-one j h d = split j 1 (λ z t. z) (λ z t. no-true (sym (simp (t, ne-eqb j 
 
 module _ {ws : List ℕ} {p : ℕ} {f : Found} (hp : p < NONE) (a : Says ws (Answers p f)) where
   -- a page that is not held
-  space : f ≡ Nothing → (m : Mem) → Repr ws m → Segmented m → Then (Evicts 1) lruRoom (asked.Room p) m
+  space : f ≡ Nothing → (m : Mem) → Repr ws m → Segmented m → Then (Evicts 1) lruRoom (asked.Admits p) m
   space z m R L =
-      let none : (x : ℕ) → (x ≡ 0 → ⊥) → isHeld x ≡ false → size m x ≡ 0 = λ x nz g. unlisted m (L .proper .indexed) (L .proper .ordered) x nz (λ i y. no-true (sym g ∙ ap isHeld (sym y) ∙ L .two i (λ w. nz (sym y ∙ w)))) in
-      lru-space m (L .proper) (L .all) (none 3 (omega arith) not3, none 4 (omega arith) not4) (omega (arith, L .protected, L .first)) p hp
-      (found-nothing a z hp m R (L .proper .indexed) .absent)
+      lru-space m (L .proper) (L .all) (three m L, four m L) (omega (arith, L .protected, L .first)) p hp
+      (found-nothing a z hp m R (L .proper .seated .indexed) .absent)
 
   -- room can be made for it
-  pub segmented-missing : f ≡ Nothing → Ready ws Segmented → Ready ws (Then (Evicts 1) lruRoom (asked.Room p))
+  pub segmented-missing : f ≡ Nothing → Ready ws Segmented → Ready ws (Then (Evicts 1) lruRoom (asked.Admits p))
   segmented-missing z o = record { mem = o .mem; repr = o .repr; meets = space z (o .mem) (o .repr) (o .meets) }
 
   -- and it is served
-  pub segmented-missed : {ws′ : List ℕ} {r : Answer} → f ≡ Nothing → Serves ws ws′ (Then (Evicts 1) lruRoom (asked.Room p)) (filling lruRoom (entering p 1)) r → Serves ws ws′ Segmented (asking segmented p) r
+  pub segmented-missed : {ws′ : List ℕ} {r : Answer} → f ≡ Nothing → Serves ws ws′ (Then (Evicts 1) lruRoom (asked.Admits p)) (filling lruRoom (entering p 1)) r → Serves ws ws′ Segmented (asking segmented p) r
   unfolding asking filling entering segmented
   segmented-missed z S = serves-as S (λ m R L.
-      let l = list-none m (L .proper .indexed) p hp (found-nothing a z hp m R (L .proper .indexed) .absent) in
+      let l = list-none m (L .proper .seated .indexed) p hp (found-nothing a z hp m R (L .proper .seated .indexed) .absent) in
       (space z m R L, simp (ne-eqb (listOn m p) 2 (λ y. omega (arith, y, l)), ne-eqb (listOn m p) 1 (λ y. omega (arith, y, l)))))
 
   -- a page that is, on list j
-  module _ {e b j : ℕ} (z : f ≡ At e b) (ej : j ≡ word ws (cellAt e 1)) where
-    on : (m : Mem) → Repr ws m → m .lists e ≡ j
-    on m R = sym (ej ∙ R .holds .at (cell list e) (found-entry a z m R .hung .within))
-
+  module _ {e b j : ℕ} (z : f ≡ At e b) (ej : j ≡ word ws (cellAt e listCol)) where
     -- a page in Q is served
     pub segmented-q : {ws′ : List ℕ} {r : Answer} → j ≡ 2 → Serves ws ws′ (OnList e) (hitFront e 2) r → Serves ws ws′ Segmented (asking segmented p) r
     unfolding asking hitFront segmented
-    segmented-q d S = serves-as S (λ m R L. let k = hits a z hp m R (lined (L .proper)) in (k .on, simp (k .entry, eq-eqb (listOn m p) 2 (k .list ∙ on m R ∙ d))))
+    segmented-q d S = serves-as S (λ m R L. let k = hits a z hp m R (lined (L .proper)) in (k .on, simp (k .entry, eq-eqb (listOn m p) 2 (k .list ∙ found-list a z ej m R ∙ d))))
 
     fronts : (j ≡ 2 → ⊥) → (m : Mem) → Repr ws m → Segmented m → Fronts e 2 m × (m .lists e ≡ 1)
     fronts d m R L =
         let k = hits a z hp m R (lined (L .proper)) in
-        let l = held-one (m .lists e) (L .two e (k .used)) (λ y. d (sym (on m R) ∙ y)) in
-        (record { on = k .on; lined = lined (front-turn m (L .proper) e 1 2 l held1 (omega arith) held2 .proper) }, l)
+        let l = held-one (m .lists e) (L .two e (k .used)) (λ y. d (sym (found-list a z ej m R) ∙ y)) in
+        (record { on = k .on; lined = lined (front-goes m (L .proper) e 1 2 l held1 (omega arith) held2 .proper) }, l)
 
     -- a page in P can go to Q
     pub segmented-p-ready : (j ≡ 2 → ⊥) → Ready ws Segmented → Ready ws (Fronts e 2)

@@ -1,21 +1,23 @@
 // Segmented LRU: list 1 is probation P, list 2 protected Q; first is the most that Q holds.
 ghost use Prim.Native.Nat.{_<_};
 ghost use Rattle.meaning.specs.Segmented.{spill, segmented};
-ghost use Rattle.meaning.specs.Places.{Ready, Turns};
-ghost use Rattle.meaning.specs.Kept.{Segmented};
+ghost use Rattle.invariants.specs.Places.{Ready, Turns};
+ghost use Rattle.invariants.specs.Assumed.{Segmented};
 ghost use Rattle.rooms.specs.Rooms.{Serves, asking, Lined, Fronts};
-ghost use Rattle.segmented.specs.Steps.{hitSpill};
+ghost use Rattle.segmented.specs.Inner.{hitSpill};
+use lists::Found;
 use meaning::Answer;
-use meaning::Found;
 use rooms::enter_lru;
 use rooms::hit_front;
+use settings::FIRST;
+use settings::LIST;
 
 // If Q is now over first, its back goes to the front of P.
 fn spill(words: &mut [u32])
     requires { ⌜ Ready (now words) Lined ⌝ }
     ensures { λ r. ⌜ Turns (now (words .entry)) (now (words .exit)) Lined spill ⌝ }
 {
-    let first = lists::word(words, 4);
+    let first = lists::word(words, FIRST);
     let n = lists::size(words, 2);
     if n <= first {
         return;
@@ -44,7 +46,7 @@ pub fn segmented_step(words: &mut [u32], page: u32) -> Answer
     let Found::At(e, _) = f else {
         return enter_lru(words, page);
     };
-    let j = lists::cell(words, e, 1);
+    let j = lists::cell(words, e, LIST);
     if j == 2 {
         return hit_front(words, e, 2);
     }

@@ -1,4 +1,4 @@
--- The door: sound words stand for their directory, and that directory is whole. Assumes nothing.
+-- The door: sound words stand for their directory, and that directory is whole.
 use mathlib.Core.Path.{_≡_, refl, ap, sym, _∙_}
 use mathlib.Core.Bool.{true, false}
 use mathlib.Core.List.{List, [], _∷_}
@@ -10,27 +10,26 @@ use borrow.Author.Tests.{eq-eqb, eqb-true, eqb-false, ne-eqb, ltb-true, lt-ltb, 
 use Rattle.meaning.specs.Base.{first, tally}
 use Rattle.meaning.specs.Neighbours.{NONE, has, ahead, after, before, Nodup}
 use Rattle.meaning.specs.Layout.{isClock, isHeld, bucketOf, cellAt, headAt, tailAt, bucketAt}
-use Rattle.meaning.specs.Mem.{word, words, field, topOf, listOf, chainOf, decode, held, sits}
-use Rattle.meaning.specs.Places.{Place, top, head, tail, bucket, end, cell, page, list, slot, prev, next, chain, mark, spare, Valid, addr, image, bwd, fwd, Fine, Repr}
-use Rattle.meaning.specs.Shape.{Canonical}
-use Rattle.meaning.specs.Proper.{Indexed, Slotted, upTo}
-use Rattle.meaning.specs.Rules.{E, pageIn, listIn, slotIn, previousIn, nextIn, used, holds, on, heldCount, listFrom, bucketFrom, bucketIn, ofBucket, freeWords, word6Fits, ruleB, backwards, chainRight, ruleH, sound}
-use Rattle.meaning.specs.Whole.{Headed, Whole}
-use Rattle.meaning.proofs.Lists.{split, no-true, beside-absent}
-use Rattle.meaning.proofs.Numbers.{by-test, first-hit}
-use Rattle.meaning.proofs.Families.{not-so}
-use Rattle.meaning.proofs.Chained.{bucket-lt}
-use Rattle.meaning.proofs.Unique.{below}
-use Rattle.meaning.proofs.Trip.{repr-words}
-use Rattle.sound.specs.Sized.{Sized, chainIn}
-use Rattle.meaning.proofs.Numbered.{list-fits, held-used}
-use Rattle.meaning.proofs.Tests.{and-left, and-right, both, every-at}
-use Rattle.meaning.proofs.Counted.{before-last, tally-has, tally-same, each-value}
-use Rattle.meaning.proofs.Walks.{walk-stop, walk-front, walk-after}
-use Rattle.sound.proofs.Sizes.{rule-a, sized}
-use Rattle.meaning.proofs.Listed.{Kept, keeps-is, visited, Listed, right-is}
-use Rattle.meaning.proofs.Read.{held-tally, count-is, held-is}
-use Rattle.sound.proofs.Rules.{Rules, all-rules, Taken, free-words, taken, lists-right, ends-none, clock-entry, one-page, slot-below, one-slot, ghost-slot, chains-right, on-chain}
+use Rattle.meaning.specs.Mem.{word, words, field, topOf, listOf, chainOf, decode, held, sits, E, bitsIn, capacityIn, endIn, policyIn, word6In}
+use Rattle.invariants.specs.Places.{Place, top, head, tail, bucket, end, cell, page, list, slot, prev, next, chain, mark, spare, Valid, addr, image, bwd, fwd, Fine, Repr}
+use Rattle.invariants.specs.Shape.{Canonical}
+use Rattle.invariants.specs.Proper.{Indexed, Slotted, upTo}
+use Rattle.meaning.specs.Rules.{listIn, slotIn, previousIn, nextIn, used, holds, on, heldCount, listFrom, bucketFrom, bucketIn, ofBucket, freeWords, word6Fits, ruleB, backwards, chainRight, ruleH, sound}
+use Rattle.invariants.specs.Whole.{Headed, Whole}
+use Rattle.invariants.proofs.Lists.{split, no-true, beside-absent}
+use Rattle.invariants.proofs.Numbers.{by-test, first-hit}
+use Rattle.invariants.proofs.Families.{not-so}
+use Rattle.invariants.proofs.Unique.{below}
+use Rattle.invariants.proofs.Trip.{repr-words}
+use Rattle.readers.specs.Sized.{Sized, chainIn}
+use Rattle.invariants.proofs.Numbered.{list-fits, held-used}
+use Rattle.invariants.proofs.Tests.{and-left, and-right, both, every-at}
+use Rattle.invariants.proofs.Counted.{before-last, tally-has, tally-same, each-value}
+use Rattle.invariants.proofs.Walks.{walk-stop, walk-front, walk-after}
+use Rattle.readers.proofs.Sizes.{rule-a, sized}
+use Rattle.invariants.proofs.Listed.{Kept, keeps-is, visited, Listed, right-is}
+use Rattle.invariants.proofs.Read.{held-tally, count-is, held-is}
+use Rattle.readers.proofs.Rules.{Rules, all-rules, Taken, free-words, taken, lists-right, ends-none, clock-entry, one-page, slot-below, one-slot, ghost-slot, bucket-fits, chains-right, on-chain}
 
 -- previous is what stands before
 link-before : (ws : List ℕ) (p : ℕ) (L : List ℕ) → backwards ws p L ≡ true → (i : ℕ) → has L i ≡ true → previousIn ws i ≡ ahead p L i
@@ -50,11 +49,11 @@ module _ (ws : List ℕ) (R : Rules ws) where
 
   in-field : (f d i : ℕ) → i < E ws → field ws f d i ≡ word ws (cellAt i f)
   unfolding field
-  in-field f d i l = simp (lt-ltb i (word ws 2) l)
+  in-field f d i l = simp (lt-ltb i (E ws) l)
 
   out-field : (f d i : ℕ) → E ws ≤ i → field ws f d i ≡ d
   unfolding field
-  out-field f d i l = simp (le-ltb i (word ws 2) l)
+  out-field f d i l = simp (le-ltb i (E ws) l)
 
   -- an entry past the last, a free one, a used one
   by-entry : {P : Type 0} (i : ℕ) → (E ws ≤ i → P) → (i < E ws → listIn ws i ≡ 0 → ((f : ℕ) → f < 8 → word ws (cellAt i f) ≡ getD freeWords f 0) → P)
@@ -66,27 +65,27 @@ module _ (ws : List ℕ) (R : Rules ws) where
   unfolding listOf
   order-at j h = simp (le-leb 1 j (h .0), le-leb j 4 (h .1))
 
-  by-list : {P : Type 0} (j : ℕ) → (listOf ws j ≡ [] → ((1 ≤ j) × (j ≤ 4) → isClock (word ws 0) ≡ true) → P) → ((1 ≤ j) × (j ≤ 4) → listOf ws j ≡ listFrom ws j → Listed ws j → P) → P
+  by-list : {P : Type 0} (j : ℕ) → (listOf ws j ≡ [] → ((1 ≤ j) × (j ≤ 4) → isClock (policyIn ws) ≡ true) → P) → ((1 ≤ j) × (j ≤ 4) → listOf ws j ≡ listFrom ws j → Listed ws j → P) → P
   unfolding listOf
   by-list j a b =
       below j 1 (λ h. a (simp (lt-leb 1 j h)) (λ g. absurd (omega arith))) (λ h.
       below 4 j (λ g. a (simp (le-leb 1 j h, lt-leb j 4 g)) (λ k. absurd (omega arith))) (λ g.
-      by-test (isClock (word ws 0))
+      by-test (isClock (policyIn ws))
       (λ k. a (order-at j (h, g) ∙ walk-stop (nextIn ws) (E ws + 1) (word ws (headAt j)) (ends-none ws (R .d) k j (h, g) .0)) (λ _. k))
       (λ k. b (h, g) (order-at j (h, g)) (right-is ws j (lists-right ws (R .d) k j (h, g))))))
 
   -- a chain that is empty, or is read off the words
-  chain-at : (b : ℕ) → b < 2 ^ word ws 3 → chainOf ws b ≡ bucketFrom ws b
+  chain-at : (b : ℕ) → b < 2 ^ bitsIn ws → chainOf ws b ≡ bucketFrom ws b
   unfolding chainOf
-  chain-at b h = simp (lt-ltb b (2 ^ word ws 3) h)
+  chain-at b h = simp (lt-ltb b (2 ^ bitsIn ws) h)
 
-  chain-kept : (b : ℕ) → b < 2 ^ word ws 3 → Kept (E ws) (ofBucket ws b) (bucketFrom ws b)
+  chain-kept : (b : ℕ) → b < 2 ^ bitsIn ws → Kept (E ws) (ofBucket ws b) (bucketFrom ws b)
   unfolding chainRight
-  chain-kept b h = keeps-is _ _ _ (every-at (2 ^ word ws 3) (chainRight ws) (chains-right ws (R .g)) b h)
+  chain-kept b h = keeps-is _ _ _ (every-at (2 ^ bitsIn ws) (chainRight ws) (chains-right ws (R .g)) b h)
 
   by-chain : {P : Type 0} (b : ℕ) → (chainOf ws b ≡ [] → P) → (chainOf ws b ≡ bucketFrom ws b → Kept (E ws) (ofBucket ws b) (bucketFrom ws b) → P) → P
   unfolding chainOf
-  by-chain b none some = below b (2 ^ word ws 3) (λ h. some (chain-at b h) (chain-kept b h)) (λ h. none (simp (le-ltb b (2 ^ word ws 3) h)))
+  by-chain b none some = below b (2 ^ bitsIn ws) (λ h. some (chain-at b h) (chain-kept b h)) (λ h. none (simp (le-ltb b (2 ^ bitsIn ws) h)))
 
   -- who is on a list, and who is on a chain
   on-list : (j i : ℕ) → has (listOf ws j) i ≡ true → (i < E ws) × (listIn ws i ≡ j) × ((1 ≤ j) × (j ≤ 4))
@@ -102,8 +101,8 @@ module _ (ws : List ℕ) (R : Rules ws) where
   has-page : (i : ℕ) → (field ws 0 NONE i ≡ NONE → ⊥) → (i < E ws) × (listIn ws i ≡ 0 → ⊥)
   has-page i z = by-entry i (λ o. absurd (z (out-field 0 NONE i o))) (λ l y w. absurd (z (in-field 0 NONE i l ∙ w 0 (lit< tt)))) (λ l u t. (l, u))
 
-  bucket-at : (i : ℕ) → i < E ws → bucketOf (word ws 3) (field ws 0 NONE i) ≡ bucketIn ws i
-  bucket-at i l = ap (bucketOf (word ws 3)) (in-field 0 NONE i l)
+  bucket-at : (i : ℕ) → i < E ws → bucketOf (bitsIn ws) (field ws 0 NONE i) ≡ bucketIn ws i
+  bucket-at i l = ap (bucketOf (bitsIn ws)) (in-field 0 NONE i l)
 
   fine : Fine (decode ws)
   unfolding decode topOf Nodup
@@ -118,7 +117,7 @@ module _ (ws : List ℕ) (R : Rules ws) where
       once = λ b. by-chain b (λ e. rw e tt) (λ e k. rw e (k .once));
       member = λ b i h. let k = on-chains b i h in (k .0, bucket-at i (k .0) ∙ k .1);
     };
-    four = λ j i h. on-list j i h .2;
+    range = λ j i h. on-list j i h .2;
     used = λ b i h z. let k = on-chains b i h in taken ws (R .c) i (k .0) (k .2) .page (sym (in-field 0 NONE i (k .0)) ∙ z);
     apart = λ i h z w.
         let a = has-page i z in
@@ -138,13 +137,10 @@ module _ (ws : List ℕ) (R : Rules ws) where
       let t = tally-has (E ws) L (k .kept .once) (λ x h. visited (k .kept) x h .0) in
       tally-same (E ws) (has L) (on ws j) (λ x b h. visited (k .kept) x h .1) (omega (arith, t, k .exact)) i l (eq-eqb _ _ e)
 
-  bucket-fits : (i : ℕ) → bucketIn ws i < 2 ^ word ws 3
-  bucket-fits i = bucket-lt (word ws 3) (pageIn ws i) (omega (arith, fits .bits))
-
-  no-order : (i : ℕ) → i < E ws → ((1 ≤ listIn ws i) × (listIn ws i ≤ 4) → isClock (word ws 0) ≡ true) → (previousIn ws i ≡ NONE) × (nextIn ws i ≡ NONE)
+  no-order : (i : ℕ) → i < E ws → ((1 ≤ listIn ws i) × (listIn ws i ≤ 4) → isClock (policyIn ws) ≡ true) → (previousIn ws i ≡ NONE) × (nextIn ws i ≡ NONE)
   no-order i l c = split (listIn ws i) 0
       (λ z t. let w = free-words ws (R .c) i l z in (w 3 (lit< tt), w 4 (lit< tt)))
-      (λ z t. let k = clock-entry ws (R .d) (c (list-fits (word ws 0) (listIn ws i) (taken ws (R .c) i l z .list))) i l in (k .previous, k .next))
+      (λ z t. let k = clock-entry ws (R .d) (c (list-fits (policyIn ws) (listIn ws i) (taken ws (R .c) i l z .list))) i l in (k .previous, k .next))
 
   prev-is : (i : ℕ) → i < E ws → previousIn ws i ≡ before (listOf ws (listIn ws i)) i
   prev-is i l = by-list (listIn ws i)
@@ -159,8 +155,8 @@ module _ (ws : List ℕ) (R : Rules ws) where
   chain-is : (i : ℕ) → i < E ws → chainIn ws i ≡ after (chainOf ws (bucketIn ws i)) i
   chain-is i l = by-entry i (λ o. absurd (omega arith))
       (λ _ z w. w 5 (lit< tt) ∙ sym (beside-absent fwd _ i (not-none i l) (not-so _ (λ h. on-chains (bucketIn ws i) i h .2 z))))
-      (λ _ u t. rw (chain-at (bucketIn ws i) (bucket-fits i)) (sym (walk-after (chainIn ws) (E ws + 1) NONE (word ws (bucketAt (E ws) (bucketIn ws i))) i
-      (omega (arith, chain-kept (bucketIn ws i) (bucket-fits i) .ends)) (not-none i l) (on-chain ws (R .g) i l u))))
+      (λ _ u t. rw (chain-at (bucketIn ws i) (bucket-fits ws fits i)) (sym (walk-after (chainIn ws) (E ws + 1) NONE (word ws (bucketAt (E ws) (bucketIn ws i))) i
+      (omega (arith, chain-kept (bucketIn ws i) (bucket-fits ws fits i) .ends)) (not-none i l) (on-chain ws (R .g) i l u))))
 
   tail-is : (j : ℕ) → (1 ≤ j) × (j ≤ 4) → word ws (tailAt j) ≡ before (listOf ws j) NONE
   unfolding ahead
@@ -168,13 +164,13 @@ module _ (ws : List ℕ) (R : Rules ws) where
       (λ e c. ends-none ws (R .d) (c h) j h .1 ∙ sym (rw e))
       (λ g e k. rw e (k .tail ∙ sym (before-last NONE (listFrom ws j) (not-so _ (λ x. omega (arith, visited (k .kept) NONE x .0, fits .few))))))
 
-  at-place : (q : Place) → Valid (E ws) (word ws 3) q → word ws (addr (E ws) q) ≡ image (decode ws) q
+  at-place : (q : Place) → Valid (E ws) (bitsIn ws) q → word ws (addr (E ws) q) ≡ image (decode ws) q
   unfolding decode topOf ruleB
   at-place (top t) h = sym (simp (lt-ltb t 7 h))
   at-place (head j) h = rw (order-at j h) (sym (walk-front (nextIn ws) (E ws + 1) NONE (word ws (headAt j)) (omega arith)))
   at-place (tail j) h = tail-is j h
   at-place (bucket b) h = rw (chain-at b h) (sym (walk-front (chainIn ws) (E ws + 1) NONE (word ws (bucketAt (E ws) b)) (omega arith)))
-  at-place end h = eqb-true _ _ (and-right (word6Fits (word ws 0) (word ws 1) (word ws 6)) _ (R .b))
+  at-place end h = eqb-true _ _ (and-right (word6Fits (policyIn ws) (capacityIn ws) (word6In ws)) _ (R .b))
   at-place (cell page i) h = sym (in-field 0 NONE i h)
   at-place (cell list i) h = sym (in-field 1 0 i h)
   at-place (cell slot i) h = sym (in-field 2 NONE i h)
@@ -194,7 +190,7 @@ module _ (ws : List ℕ) (R : Rules ws) where
   unfolding decode topOf ruleB
   headed =
       let r = rule-a ws (R .a) in
-      record { settings = r .settings; entries = r .entries; bits = r .bits; word6 = and-left _ (eqb (word ws 15) 0) (R .b) }
+      record { settings = r .settings; entries = r .entries; bits = r .bits; word6 = and-left _ (eqb (endIn ws) 0) (R .b) }
 
   canonical : Canonical (decode ws)
   unfolding decode topOf
@@ -211,7 +207,7 @@ module _ (ws : List ℕ) (R : Rules ws) where
   indexed = record {
     fine = fine;
     canonical = canonical;
-    hung = λ i z. let k = has-page i z in rw (bucket-at i (k .0), chain-at (bucketIn ws i) (bucket-fits i)) (on-chain ws (R .g) i (k .0) (k .1));
+    hung = λ i z. let k = has-page i z in rw (bucket-at i (k .0), chain-at (bucketIn ws i) (bucket-fits ws fits i)) (on-chain ws (R .g) i (k .0) (k .1));
     free = λ i z. by-entry i
         (λ o. (out-field 1 0 i o, out-field 6 0 i o))
         (λ l y w. (in-field 1 0 i l ∙ y, in-field 6 0 i l ∙ w 6 (lit< tt)))
@@ -263,14 +259,13 @@ module _ (ws : List ℕ) (R : Rules ws) where
   whole = record {
     headed = headed;
     stocked = record {
-      indexed = indexed;
+      seated = record { indexed = indexed; slotted = slotted };
       idle = λ i z. by-entry i (out-field 0 NONE i) (λ l y w. in-field 0 NONE i l ∙ w 0 (lit< tt)) (λ l u t. absurd (u (sym (in-field 1 0 i l) ∙ z)));
       uses = λ i z. by-entry i (λ o. absurd (z (out-field 1 0 i o))) (λ l y w. absurd (z (in-field 1 0 i l ∙ y))) (λ l u t. rw (in-field 1 0 i l) (t .list));
       marks = λ i. by-entry i (λ o. rw (out-field 6 0 i o) zero-le) (λ l y w. rw (in-field 6 0 i l, w 6 (lit< tt)) zero-le) (λ l u t. rw (in-field 6 0 i l) (t .mark));
-      slotted = slotted;
     };
     listed = λ k i z. by-entry i (λ o. absurd (z (out-field 1 0 i o))) (λ l y w. absurd (z (in-field 1 0 i l ∙ y))) (λ l u t.
-        let f = list-fits (word ws 0) (listIn ws i) (t .list) in
+        let f = list-fits (policyIn ws) (listIn ws i) (t .list) in
         rw (in-field 1 0 i l, order-at (listIn ws i) f) (on-its-list (listIn ws i) i (right-is ws (listIn ws i) (lists-right ws (R .d) k (listIn ws i) f)) l refl));
     clock = λ k. record {
       bare = λ j. by-list j (λ e c. e) (λ g e r. e ∙ walk-stop (nextIn ws) (E ws + 1) (word ws (headAt j)) (ends-none ws (R .d) k j g .0));

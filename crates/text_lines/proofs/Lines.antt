@@ -10,7 +10,7 @@ use borrow.Author.Tests.{lt-ltb, le-ltb, eq-eqb, ne-eqb, ltb-true, ltb-false, eq
 use native.Mathlib.Numerals.{add-one}
 use native.Mathlib.Omega.{arith}
 use Rattle.meaning.specs.Text.{dec, decimal, lineOf, Took, wrong, right, scan, number, line}
-use Rattle.meaning.proofs.Lists.{split}
+use Rattle.invariants.proofs.Lists.{split}
 
 -- By a test: what it says of the numbers, and the test's value.
 pub by-lt : {C : Type 0} (a b : ℕ) → (a < b → ltb a b ≡ true → C) → (b ≤ a → ltb a b ≡ false → C) → C

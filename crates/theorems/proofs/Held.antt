@@ -1,5 +1,4 @@
 -- The held pages change as the answer says, and a look tells them: for every policy.
--- Assumes nothing.
 use Prim.Native.Nat.{ℕ, _<_}
 use mathlib.Core.Path.{_≡_, refl, sym, ap, _∙_, subst}
 use mathlib.Core.Bool.{Bool, true, false}
@@ -14,16 +13,16 @@ use Rattle.meaning.specs.Mem.{Mem, entryOf, listOn}
 use Rattle.meaning.specs.Room.{Kind, hit, loaded, swapped, Done}
 use Rattle.meaning.specs.Calls.{absent, remembered, heldIn, sight}
 use Rattle.meaning.specs.Policies.{request}
-use Rattle.meaning.specs.Proper.{Indexed, Seated, Sits}
-use Rattle.meaning.specs.Whole.{Whole}
-use Rattle.meaning.proofs.Lists.{split}
-use Rattle.meaning.proofs.Numbers.{by-test}
+use Rattle.invariants.specs.Proper.{Indexed, Seated, Sits}
+use Rattle.invariants.specs.Whole.{Whole}
+use Rattle.invariants.proofs.Lists.{split}
+use Rattle.invariants.proofs.Numbers.{by-test}
 use Rattle.theorems.specs.Held.{Held, Changes}
 use Rattle.theorems.specs.Served.{Served}
 use Rattle.theorems.proofs.Operations.{free-held, real}
 use Rattle.theorems.proofs.Rooms.{entry-is, list-is, entry-cases}
 use Rattle.theorems.proofs.Serving.{hit-swapped, loaded-swapped, loaded-hit}
-use Rattle.theorems.proofs.Whole.{whole-seated, request-served}
+use Rattle.theorems.proofs.Whole.{request-served}
 
 module _ {ok : Mem → Type 0} (m : Mem) (p : ℕ) (d : Done) (P : Seated m) (D : Served ok m p d) where
   -- where nothing is put out, all stay
@@ -75,7 +74,7 @@ module _ {ok : Mem → Type 0} (m : Mem) (p : ℕ) (d : Done) (P : Seated m) (D 
 
 -- the held pages change as the answer says, whatever the policy
 pub held-pages : (m : Mem) → Whole m → (p : ℕ) → p < NONE → Changes (request m p .reply .kind) m p (request m p .reply .out) (request m p .mem)
-held-pages m W p hp = served-changes m p (request m p) (whole-seated m W) (request-served m W p hp)
+held-pages m W p hp = served-changes m p (request m p) (W .stocked .seated) (request-served m W p hp)
 
 -- a look says held in slot s exactly if the page is held there
 pub look-agrees : (m : Mem) → Whole m → (p s : ℕ) → p < NONE → (sight m p ≡ heldIn s) ↔ Sits p s m
@@ -83,7 +82,7 @@ unfolding sight
 look-agrees m W p s hp = (entry-cases m I p hp found lost, seen)
   where
     I : Indexed m
-    I = whole-seated m W .indexed
+    I = W .stocked .seated .indexed
 
     found : (e : ℕ) → m .pages e ≡ p → entryOf m p ≡ e → listOn m p ≡ m .lists e → sight m p ≡ heldIn s → Sits p s m
     found e z w on h = by-test (isHeld (listOn m p))

@@ -5,14 +5,13 @@ pub mod Counts
 pub mod Word6
 pub mod Bare
 pub mod Serving
-pub mod Turning
+pub mod Going
 pub mod Lru
 pub mod Segmented
-pub mod Plain
+pub mod Short
 pub mod TwoQ
 pub mod Arc
 pub mod Clock
 pub mod Whole
 pub mod Held
 pub mod Ram
-pub mod Outside

@@ -1,5 +1,4 @@
 -- An entry that changes its list and its slot: put out to the ghosts, and back from them.
--- Assumes nothing.
 use Prim.Native.Nat.{ℕ, suc, _≤_}
 use mathlib.Core.Path.{_≡_, refl, sym, ap, _∙_}
 use mathlib.Core.Bool.{Bool, true, false}
@@ -7,13 +6,13 @@ use native.Mathlib.Omega.{arith}
 use borrow.Author.Tests.{ne-eqb, ltb-true}
 use Rattle.meaning.specs.Neighbours.{NONE, put}
 use Rattle.meaning.specs.Layout.{isHeld}
-use Rattle.meaning.specs.Mem.{Mem, held, off, push, withSlot, toFront, moveTo}
-use Rattle.meaning.specs.Proper.{Indexed, Ordered, Slotted, upTo, Proper}
-use Rattle.meaning.specs.Vacant.{Vacant}
-use Rattle.meaning.proofs.Numbered.{held-used}
-use Rattle.meaning.proofs.Lists.{split, eqb-same, no-true}
-use Rattle.meaning.proofs.Numbers.{tally-one}
-use Rattle.meaning.proofs.Fine.{front-fine, slot-fine}
+use Rattle.meaning.specs.Mem.{Mem, held, off, push, withSlot, toFront, moveTo, entryCount}
+use Rattle.invariants.specs.Proper.{Indexed, Ordered, Slotted, upTo, Proper}
+use Rattle.invariants.specs.Vacant.{Vacant}
+use Rattle.invariants.proofs.Numbered.{held-used}
+use Rattle.invariants.proofs.Lists.{split, eqb-same, no-true}
+use Rattle.invariants.proofs.Numbers.{tally-one}
+use Rattle.invariants.proofs.Fine.{front-fine, slot-fine}
 use Rattle.theorems.specs.Change.{Moved, Quiet}
 use Rattle.theorems.proofs.Operations.{within, paged, front-ordered}
 use Rattle.theorems.proofs.Rooms.{slotted-as, slots-full}
@@ -106,32 +105,36 @@ module _ (m : Mem) (I : Indexed m) (e j s : ℕ) (u : m .lists e ≡ 0 → ⊥) 
   -- one held page less
   held-down : isHeld (m .lists e) ≡ true → isHeld j ≡ false → held m ≡ suc (held (moveTo e j s m))
   unfolding held
-  held-down a b = rw (move-quiet .tops) (tally-one (m .tops 2) (λ i. isHeld (m .lists i)) (λ i. isHeld (moveTo e j s m .lists i)) e (within m I e u) a (ap isHeld move-list ∙ b) (λ i d. sym (ap isHeld (move-at i d))))
+  held-down a b = rw (move-quiet .tops) (tally-one (entryCount m) (λ i. isHeld (m .lists i)) (λ i. isHeld (moveTo e j s m .lists i)) e (within m I e u) a (ap isHeld move-list ∙ b) (λ i d. sym (ap isHeld (move-at i d))))
 
   -- one more
   held-up : isHeld (m .lists e) ≡ false → isHeld j ≡ true → held (moveTo e j s m) ≡ suc (held m)
   unfolding held
-  held-up a b = rw (move-quiet .tops) (tally-one (m .tops 2) (λ i. isHeld (moveTo e j s m .lists i)) (λ i. isHeld (m .lists i)) e (within m I e u) (ap isHeld move-list ∙ b) a (λ i d. ap isHeld (move-at i d)))
+  held-up a b = rw (move-quiet .tops) (tally-one (entryCount m) (λ i. isHeld (moveTo e j s m .lists i)) (λ i. isHeld (m .lists i)) e (within m I e u) (ap isHeld move-list ∙ b) a (λ i d. ap isHeld (move-at i d)))
 
 -- a held page put out to the ghosts
 pub vacant-to : (m : Mem) → Proper m → (e j : ℕ) → isHeld (m .lists e) ≡ true → (1 ≤ j) × (j ≤ 4) → isHeld j ≡ false → Vacant (m .slots e) (moveTo e j NONE m)
 vacant-to m P e j h hj g =
-    let I = P .indexed in let O = P .ordered in let u = held-used (m .lists e) h in
+    let I = P .seated .indexed in let O = P .ordered in let u = held-used (m .lists e) h in
     let n = held-down m I e j NONE u h g in
     record {
-      indexed = move-indexed m I e j NONE u O hj (λ _. refl);
+      gap = record {
+        indexed = move-indexed m I e j NONE u O hj (λ _. refl);
+        fits = omega (arith, n, ltb-true (m .slots e) (held m) (P .seated .slotted .back e h .0));
+        slotted = slotted-as (moveTo e j NONE m) (λ s. ap (λ (k : ℕ). put (upTo k) (m .slots e) false s) n) (move-out m I e j NONE u h g (upTo (held m)) (P .seated .slotted));
+      };
       ordered = move-ordered m I e j NONE u O hj;
-      fits = omega (arith, n, ltb-true (m .slots e) (held m) (P .slotted .back e h .0));
-      slotted = slotted-as (moveTo e j NONE m) (λ s. ap (λ (k : ℕ). put (upTo k) (m .slots e) false s) n) (move-out m I e j NONE u h g (upTo (held m)) (P .slotted));
     }
 
 -- a ghost loaded where there is room
 pub return-proper : (m : Mem) (s : ℕ) → Vacant s m → (e j : ℕ) → (m .lists e ≡ 0 → ⊥) → isHeld (m .lists e) ≡ false → (1 ≤ j) × (j ≤ 4) → isHeld j ≡ true → Proper (moveTo e j s m)
 return-proper m s W e j u h hj g =
-    let I = W .indexed in let O = W .ordered in
+    let I = W .gap .indexed in let O = W .ordered in
     record {
-      indexed = move-indexed m I e j s u O hj (λ z. no-true (sym z ∙ g));
+      seated = record {
+        indexed = move-indexed m I e j s u O hj (λ z. no-true (sym z ∙ g));
+        slotted = slotted-as (moveTo e j s m) (slots-full (W .gap .fits) (held-up m I e j s u h g))
+            (move-in m I e j s u h g (put (upTo (suc (held m))) s false) (simp (eqb-same s)) (W .gap .slotted));
+      };
       ordered = move-ordered m I e j s u O hj;
-      slotted = slotted-as (moveTo e j s m) (slots-full (W .fits) (held-up m I e j s u h g))
-          (move-in m I e j s u h g (put (upTo (suc (held m))) s false) (simp (eqb-same s)) (W .slotted));
     }

@@ -1,22 +1,21 @@
 -- What the operations of the policies keep: once for each operation, and not for each policy.
--- Assumes nothing.
 use Prim.Native.Nat.{ℕ, suc, _≤_, _<_}
 use mathlib.Core.Path.{_≡_, refl, sym, ap, _∙_}
 use mathlib.Core.Bool.{Bool, true, false, not}
 use mathlib.Core.List.{List, _∷_}
 use native.Mathlib.Omega.{arith}
-use lib.Dec.{eqb, ltb}
+use lib.Dec.{ltb}
 use borrow.Author.Tests.{eq-eqb, ne-eqb, lt-ltb, le-ltb, ltb-true, ltb-false}
-use Rattle.meaning.specs.Base.{first, tally}
+use Rattle.meaning.specs.Base.{tally}
 use Rattle.meaning.specs.Neighbours.{NONE, put, has, remove}
 use Rattle.meaning.specs.Layout.{isHeld}
-use Rattle.meaning.specs.Mem.{Mem, home, held, off, push, hang, unhang, withSlot, withMark, blanked, toFront, clear, fill, lowest, taken, freeSlot}
-use Rattle.meaning.specs.Places.{Fine}
-use Rattle.meaning.specs.Proper.{Indexed, Ordered, Slotted, upTo, Seated, Proper, Sits}
-use Rattle.meaning.proofs.Numbered.{held-used}
-use Rattle.meaning.proofs.Lists.{split, eqb-same, no-true, has-remove}
-use Rattle.meaning.proofs.Numbers.{by-test, first-hit, first-at, some-hit, some-miss, tally-ext, tally-one}
-use Rattle.meaning.proofs.Fine.{unhang-fine, blanked-fine, front-fine}
+use Rattle.meaning.specs.Mem.{Mem, home, held, off, push, hang, unhang, withSlot, withMark, blanked, toFront, clear, fill, lowest, taken, freeSlot, capacityOf, entryCount}
+use Rattle.invariants.specs.Places.{Fine}
+use Rattle.invariants.specs.Proper.{Indexed, Ordered, Slotted, upTo, Seated, Sits}
+use Rattle.invariants.proofs.Numbered.{held-used}
+use Rattle.invariants.proofs.Lists.{split, eqb-same, no-true, has-remove}
+use Rattle.invariants.proofs.Numbers.{by-test, find-hit, first-at, some-hit, some-miss, tally-ext, tally-one}
+use Rattle.invariants.proofs.Fine.{unhang-fine, blanked-fine, front-fine}
 use Rattle.theorems.specs.Change.{Moved, Quiet, placed}
 
 -- what the lists of a changed family have: others than e stay where they are
@@ -43,8 +42,8 @@ free-held = refl
 
 module _ (m : Mem) (I : Indexed m) where
   -- an entry with a list is one of the directory's
-  pub within : (i : ℕ) → (m .lists i ≡ 0 → ⊥) → i < m .tops 2
-  within i u = by-test (ltb i (m .tops 2)) (λ t. ltb-true i (m .tops 2) t) (λ t. absurd (u (I .canonical .lists i (ltb-false i (m .tops 2) t))))
+  pub within : (i : ℕ) → (m .lists i ≡ 0 → ⊥) → i < entryCount m
+  within i u = by-test (ltb i (entryCount m)) (λ t. ltb-true i (entryCount m) t) (λ t. absurd (u (I .canonical .lists i (ltb-false i (entryCount m) t))))
 
   -- an entry with a list has a page
   pub paged : (i : ℕ) → (m .lists i ≡ 0 → ⊥) → m .pages i ≡ NONE → ⊥
@@ -101,7 +100,7 @@ module _ (m : Mem) (I : Indexed m) where
     -- toFront keeps the number of held pages
     pub front-held : isHeld j ≡ isHeld (m .lists e) → held (toFront e j m) ≡ held m
     unfolding held
-    front-held alike = unfold toFront push off in tally-ext (m .tops 2) _ _ (λ i l. split i e
+    front-held alike = unfold toFront push off in tally-ext (entryCount m) _ _ (λ i l. split i e
         (λ z t. simp t (alike ∙ ap (λ (x : ℕ). isHeld (m .lists x)) (sym z))) (λ z t. simp t))
 
   -- ── clear ──
@@ -178,7 +177,7 @@ module _ (m : Mem) (I : Indexed m) where
     pub clear-held : isHeld (m .lists e) ≡ true → held m ≡ suc (held (clear e m))
     unfolding held isHeld
     clear-held h = unfold clear blanked withMark withSlot unhang off in
-        tally-one (m .tops 2) (λ i. isHeld (m .lists i)) (λ i. isHeld (put (m .lists) e 0 i)) e (within e u) h (simp (eqb-same e)) (λ i d. simp (ne-eqb i e d))
+        tally-one (entryCount m) (λ i. isHeld (m .lists i)) (λ i. isHeld (put (m .lists) e 0 i)) e (within e u) h (simp (eqb-same e)) (λ i d. simp (ne-eqb i e d))
 
     -- ── a ghost removed ──
     module _ (g : isHeld (m .lists e) ≡ false) where
@@ -205,10 +204,10 @@ module _ (m : Mem) (I : Indexed m) where
       pub ghost-held : held (clear e m) ≡ held m
       unfolding held
       ghost-held = ap (λ (f : ℕ → ℕ). tally (f 2) (λ i. isHeld (clear e m .lists i))) (clear-quiet .tops)
-          ∙ tally-ext (m .tops 2) (λ i. isHeld (clear e m .lists i)) (λ i. isHeld (m .lists i)) (λ i l. alike i)
+          ∙ tally-ext (entryCount m) (λ i. isHeld (clear e m .lists i)) (λ i. isHeld (m .lists i)) (λ i l. alike i)
 
   -- ── placed: an entry that is free gets a page that no entry has ──
-  module _ (e p j s : ℕ) (o : ℕ → List ℕ) (he : e < m .tops 2) (idle : m .lists e ≡ 0) (hp : p < NONE) (hj : 1 ≤ j) (hh : isHeld j ≡ true) where
+  module _ (e p j s : ℕ) (o : ℕ → List ℕ) (he : e < entryCount m) (idle : m .lists e ≡ 0) (hp : p < NONE) (hj : 1 ≤ j) (hh : isHeld j ≡ true) where
     -- a new page changes its entry alone
     pub placed-moved : Moved e j m (placed e p j s o m)
     unfolding placed
@@ -265,7 +264,7 @@ module _ (m : Mem) (I : Indexed m) where
     pub placed-held : held (placed e p j s o m) ≡ suc (held m)
     unfolding held
     placed-held = unfold placed in
-        tally-one (m .tops 2) (λ i. isHeld (put (m .lists) e j i)) (λ i. isHeld (m .lists i)) e he (simp (eqb-same e) hh) free-not (λ i d. simp (ne-eqb i e d))
+        tally-one (entryCount m) (λ i. isHeld (put (m .lists) e j i)) (λ i. isHeld (m .lists i)) e he (simp (eqb-same e) hh) free-not (λ i d. simp (ne-eqb i e d))
 
 -- a new page joins its list
 pub fill-ordered : (m : Mem) → Ordered m → (e p j s : ℕ) → 1 ≤ j → Ordered (fill e p j s m)
@@ -279,10 +278,6 @@ fill-ordered m O e p j s hj = record {
 }
 
 -- ── What a seated directory has ──
-
--- a directory with lists has its pages in their slots
-pub seated : (m : Mem) → Proper m → Seated m
-seated m P = record { indexed = P .indexed; slotted = P .slotted }
 
 module _ (m : Mem) (P : Seated m) where
   -- no two held pages share a slot
@@ -305,27 +300,22 @@ module _ (m : Mem) (P : Seated m) where
   taken-below s h =
       let k = P .slotted .there s (lt-ltb s (held m) h) in
       let i = P .slotted .at s in
-      some-hit (m .tops 2) _ i (within m (P .indexed) i (held-used _ (k .0))) (simp (k .0, eq-eqb (m .slots i) s (k .1)))
+      some-hit (entryCount m) _ i (within m (P .indexed) i (held-used _ (k .0))) (simp (k .0, eq-eqb (m .slots i) s (k .1)))
 
   free-above : (s : ℕ) → held m ≤ s → taken m s ≡ false
   unfolding taken
-  free-above s h = some-miss (m .tops 2) _ (λ i l. by-test (isHeld (m .lists i))
+  free-above s h = some-miss (entryCount m) _ (λ i l. by-test (isHeld (m .lists i))
       (λ g. let d : m .slots i ≡ s → ⊥ = λ z. no-true (sym (le-ltb s (held m) h) ∙ ap (upTo (held m)) (sym z) ∙ P .slotted .back i g .0) in
       simp (g, ne-eqb (m .slots i) s d))
       (λ g. simp g))
 
   -- the lowest free slot is the number of held pages
-  pub free-slot : held m ≤ m .tops 1 → freeSlot m ≡ held m
+  pub free-slot : held m ≤ capacityOf m → freeSlot m ≡ held m
   unfolding freeSlot
-  free-slot h = first-at (λ s. not (taken m s)) 0 (m .tops 1) (held m) (omega arith) (omega arith)
+  free-slot h = first-at (λ s. not (taken m s)) 0 (capacityOf m) (held m) (omega arith) (omega arith)
       (λ s l g. simp (taken-below s g)) (λ l. simp (free-above (held m) (omega arith)))
 
 -- where some entry is free, the lowest is, and has no page
-pub lowest-free : (m : Mem) (e : ℕ) → e < m .tops 2 → m .lists e ≡ 0 → (lowest m < m .tops 2) × (m .lists (lowest m) ≡ 0)
+pub lowest-free : (m : Mem) (e : ℕ) → e < entryCount m → m .lists e ≡ 0 → (lowest m < entryCount m) × (m .lists (lowest m) ≡ 0)
 unfolding lowest
-lowest-free m e h z =
-    let k = first-hit (λ i. eqb (m .lists i) 0) 0 (m .tops 2) e (omega arith) (omega arith) (eq-eqb (m .lists e) 0 z) in
-    (omega (arith, k .1), zero-of (m .lists (first (λ i. eqb (m .lists i) 0) 0 (m .tops 2))) (k .0))
-  where
-    zero-of : (x : ℕ) → eqb x 0 ≡ true → x ≡ 0
-    zero-of x t = split x 0 (λ y s. y) (λ y s. no-true (sym s ∙ t))
+lowest-free m e h z = let k = find-hit (entryCount m) (m .lists) 0 e h z in (k .1, k .0)

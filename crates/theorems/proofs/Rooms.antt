@@ -1,25 +1,25 @@
 -- Room for a page, and what comes there: from the operations, for every policy.
--- Assumes nothing.
 use Prim.Native.Nat.{ℕ, suc, _≤_, _<_}
 use mathlib.Core.Path.{_≡_, refl, sym, ap, _∙_}
 use mathlib.Core.Bool.{Bool, true, false}
 use mathlib.Core.List.{List, [], _∷_}
 use native.Mathlib.Omega.{arith}
-use lib.Dec.{eqb, ltb}
-use borrow.Author.Tests.{eq-eqb, ne-eqb, lt-ltb, le-ltb, ltb-true, ltb-false}
-use Rattle.meaning.specs.Base.{first}
+use lib.Dec.{ltb}
+use borrow.Author.Tests.{lt-ltb, le-ltb, ltb-true, ltb-false}
 use Rattle.meaning.specs.Neighbours.{NONE, put, has, ahead, before}
 use Rattle.meaning.specs.Layout.{isHeld}
-use Rattle.meaning.specs.Mem.{Mem, held, entryOf, listOn, off, push, hang, withSlot, toFront, clear, fill, enter, lowest, freeSlot, back}
-use Rattle.meaning.specs.Places.{Fine}
-use Rattle.meaning.specs.Proper.{Indexed, Ordered, Slotted, upTo, Seated, Proper}
-use Rattle.meaning.specs.Vacant.{Vacant}
-use Rattle.meaning.proofs.Numbered.{held-used}
-use Rattle.meaning.proofs.Lists.{split, eqb-same, no-true}
-use Rattle.meaning.proofs.Numbers.{by-test, first-hit, first-miss}
-use Rattle.meaning.proofs.Fine.{off-fine, fill-fine}
-use Rattle.theorems.specs.Change.{Gap, placed}
-use Rattle.theorems.proofs.Operations.{front-indexed, front-ordered, front-slotted, front-held, clear-indexed, clear-ordered, clear-slotted, clear-held, ghost-slotted, ghost-held, placed-indexed, placed-slotted, placed-held, fill-ordered, seated, free-slot, lowest-free}
+use Rattle.meaning.specs.Mem.{Mem, held, entryOf, listOn, off, push, hang, withSlot, toFront, clear, fill, enter, lowest, freeSlot, back, capacityOf, entryCount}
+use Rattle.invariants.specs.Places.{Fine}
+use Rattle.invariants.specs.Proper.{Indexed, Ordered, Slotted, upTo, Seated, Proper}
+use Rattle.invariants.specs.Vacant.{Gap, Vacant}
+use Rattle.invariants.proofs.Numbered.{held-used}
+use Rattle.invariants.proofs.Lists.{split, eqb-same, no-true}
+use Rattle.invariants.proofs.Numbers.{by-test}
+use Rattle.invariants.proofs.Entry.{entry-at, entry-none}
+use Rattle.invariants.proofs.Ends.{last-in}
+use Rattle.invariants.proofs.Fine.{off-fine, fill-fine}
+use Rattle.theorems.specs.Change.{placed}
+use Rattle.theorems.proofs.Operations.{front-indexed, front-ordered, front-slotted, front-held, clear-indexed, clear-ordered, clear-slotted, clear-held, ghost-slotted, ghost-held, placed-indexed, placed-slotted, placed-held, fill-ordered, free-slot, lowest-free}
 
 -- slots in use, by another test that says the same
 pub slotted-as : {G H : ℕ → Bool} (m : Mem) → ((s : ℕ) → G s ≡ H s) → Slotted G m → Slotted H m
@@ -32,21 +32,19 @@ slotted-as {G} {H} m e S = record {
 -- a page that is held, to the front of a list of held pages
 pub front-proper : (m : Mem) → Proper m → (e j : ℕ) → (m .lists e ≡ 0 → ⊥) → (1 ≤ j) × (j ≤ 4) → isHeld j ≡ isHeld (m .lists e) → Proper (toFront e j m)
 front-proper m P e j u hj alike =
-    let I = P .indexed in let O = P .ordered in
+    let I = P .seated .indexed in let O = P .ordered in
     record {
-      indexed = front-indexed m I O e j u hj alike;
+      seated = record {
+        indexed = front-indexed m I O e j u hj alike;
+        slotted = slotted-as (toFront e j m) (λ s. ap (λ (n : ℕ). upTo n s) (sym (front-held m I O e j u hj alike))) (front-slotted m I O e j u hj (upTo (held m)) alike (P .seated .slotted));
+      };
       ordered = front-ordered m I O e j u hj;
-      slotted = slotted-as (toFront e j m) (λ s. ap (λ (n : ℕ). upTo n s) (sym (front-held m I O e j u hj alike))) (front-slotted m I O e j u hj (upTo (held m)) alike (P .slotted));
     }
 
 -- ── Room ──
 
--- room in a directory with lists
-pub vacant-of : {s : ℕ} {m : Mem} → Gap s m → Ordered m → Vacant s m
-vacant-of G O = record { indexed = G .indexed; ordered = O; fits = G .fits; slotted = G .slotted }
-
 -- nothing put out: the lowest free slot
-pub gap-as-is : (m : Mem) → Seated m → held m ≤ m .tops 1 → Gap (freeSlot m) m
+pub gap-as-is : (m : Mem) → Seated m → held m ≤ capacityOf m → Gap (freeSlot m) m
 gap-as-is m P h = rw (free-slot m P h) (record {
   indexed = P .indexed;
   fits = omega arith;
@@ -75,7 +73,8 @@ gap-out m P e h F =
 pub vacant-out : (m : Mem) → Proper m → (e : ℕ) → isHeld (m .lists e) ≡ true → Vacant (m .slots e) (clear e m)
 vacant-out m P e h =
     let u = held-used (m .lists e) h in
-    vacant-of (gap-out m (seated m P) e h (off-fine m (P .indexed .fine) e (P .ordered .listed e u))) (clear-ordered m (P .indexed) e u (P .ordered))
+    let I = P .seated .indexed in
+    record { gap = gap-out m (P .seated) e h (off-fine m (I .fine) e (P .ordered .listed e u)); ordered = clear-ordered m I e u (P .ordered) }
 
 -- ── A ghost removed ──
 
@@ -86,21 +85,27 @@ module _ (m : Mem) (I : Indexed m) (O : Ordered m) (e : ℕ) (u : m .lists e ≡
 
 -- a ghost removed from a directory with lists
 pub ghost-gone : (m : Mem) → Proper m → (e : ℕ) → (m .lists e ≡ 0 → ⊥) → isHeld (m .lists e) ≡ false → Proper (clear e m)
-ghost-gone m P e u g = record {
-  indexed = removed m (P .indexed) (P .ordered) e u;
-  ordered = clear-ordered m (P .indexed) e u (P .ordered);
-  slotted = slotted-as (clear e m) (λ s. ap (λ (n : ℕ). upTo n s) (sym (ghost-held m (P .indexed) e u g))) (ghost-slotted m (P .indexed) e u g (upTo (held m)) (P .slotted));
-}
+ghost-gone m P e u g =
+    let I = P .seated .indexed in
+    record {
+      seated = record {
+        indexed = removed m I (P .ordered) e u;
+        slotted = slotted-as (clear e m) (λ s. ap (λ (n : ℕ). upTo n s) (sym (ghost-held m I e u g))) (ghost-slotted m I e u g (upTo (held m)) (P .seated .slotted));
+      };
+      ordered = clear-ordered m I e u (P .ordered);
+    }
 
 -- a ghost removed from a directory with room
 pub trim-vacant : (m : Mem) (s : ℕ) → Vacant s m → (e : ℕ) → (m .lists e ≡ 0 → ⊥) → isHeld (m .lists e) ≡ false → Vacant s (clear e m)
 trim-vacant m s W e u g =
-    let n = ghost-held m (W .indexed) e u g in
+    let I = W .gap .indexed in let n = ghost-held m I e u g in
     record {
-      indexed = removed m (W .indexed) (W .ordered) e u;
-      ordered = clear-ordered m (W .indexed) e u (W .ordered);
-      fits = rw n (W .fits);
-      slotted = slotted-as (clear e m) (λ x. ap (λ (k : ℕ). put (upTo (suc k)) s false x) (sym n)) (ghost-slotted m (W .indexed) e u g (put (upTo (suc (held m))) s false) (W .slotted));
+      gap = record {
+        indexed = removed m I (W .ordered) e u;
+        fits = rw n (W .gap .fits);
+        slotted = slotted-as (clear e m) (λ x. ap (λ (k : ℕ). put (upTo (suc k)) s false x) (sym n)) (ghost-slotted m I e u g (put (upTo (suc (held m))) s false) (W .gap .slotted));
+      };
+      ordered = clear-ordered m I e u (W .ordered);
     }
 
 -- ── A new page where there is room ──
@@ -112,7 +117,7 @@ slots-full {s} {h} {k} fits n x = split x s
     (λ z t. simp t (ap (λ (y : ℕ). ltb x y) (sym n)))
 
 -- a new page where there is room, with or without orders
-pub placed-seated : (m : Mem) (e p j s : ℕ) (o : ℕ → List ℕ) → Gap s m → e < m .tops 2 → m .lists e ≡ 0 → p < NONE → 1 ≤ j → isHeld j ≡ true
+pub placed-seated : (m : Mem) (e p j s : ℕ) (o : ℕ → List ℕ) → Gap s m → e < entryCount m → m .lists e ≡ 0 → p < NONE → 1 ≤ j → isHeld j ≡ true
     → Fine (placed e p j s o m) → Seated (placed e p j s o m)
 placed-seated m e p j s o G he idle hp hj hh F =
     let I = G .indexed in
@@ -123,34 +128,24 @@ placed-seated m e p j s o G he idle hp hj hh F =
     }
 
 -- a new page where there is room, at the front of a list
-pub enter-proper : (m : Mem) (s p j f : ℕ) → Vacant s m → f < m .tops 2 → m .lists f ≡ 0 → p < NONE → ((i : ℕ) → m .pages i ≡ p → ⊥) → (1 ≤ j) × (j ≤ 4) → isHeld j ≡ true → Proper (enter p j s m)
+pub enter-proper : (m : Mem) (s p j f : ℕ) → Vacant s m → f < entryCount m → m .lists f ≡ 0 → p < NONE → ((i : ℕ) → m .pages i ≡ p → ⊥) → (1 ≤ j) × (j ≤ 4) → isHeld j ≡ true → Proper (enter p j s m)
 unfolding enter placed
 enter-proper m s p j f W hf free hp absent hj hh =
     let k = lowest-free m f hf free in let e = lowest m in
-    let S = placed-seated m e p j s (put (m .order) j (e ∷ m .order j)) (record { indexed = W .indexed; fits = W .fits; slotted = W .slotted }) (k .0) (k .1) hp (hj .0) hh
-    (unfold fill push withSlot hang in fill-fine m (W .indexed .fine) e p j s (k .0) (k .1) (W .ordered .idle e (k .1)) hp absent hj) in
-    record { indexed = unfold fill push withSlot hang in S .indexed; ordered = fill-ordered m (W .ordered) e p j s (hj .0); slotted = unfold fill push withSlot hang in S .slotted }
+    let S = placed-seated m e p j s (put (m .order) j (e ∷ m .order j)) (W .gap) (k .0) (k .1) hp (hj .0) hh
+    (unfold fill push withSlot hang in fill-fine m (W .gap .indexed .fine) e p j s (k .0) (k .1) (W .ordered .idle e (k .1)) hp absent hj) in
+    record { seated = unfold fill push withSlot hang in S; ordered = fill-ordered m (W .ordered) e p j s (hj .0) }
 
 -- ── The entry of a page ──
 
 module _ (m : Mem) (I : Indexed m) (p : ℕ) (hp : p < NONE) where
   -- an entry with a page is one of the directory's
-  inside : (i : ℕ) → m .pages i ≡ p → i < m .tops 2
-  inside i z = by-test (ltb i (m .tops 2)) (λ t. ltb-true i (m .tops 2) t) (λ t. absurd (omega (arith, z, I .canonical .pages i (ltb-false i (m .tops 2) t))))
+  inside : (i : ℕ) → m .pages i ≡ p → i < entryCount m
+  inside i z = by-test (ltb i (entryCount m)) (λ t. ltb-true i (entryCount m) t) (λ t. absurd (omega (arith, z, I .canonical .pages i (ltb-false i (entryCount m) t))))
 
   -- the entry of a page is the one that has it
   pub entry-is : (e : ℕ) → m .pages e ≡ p → entryOf m p ≡ e
-  unfolding entryOf
-  entry-is e z =
-      let k = first-hit (λ i. eqb (m .pages i) p) 0 (m .tops 2) e (omega arith) (omega (arith, inside e z)) (eq-eqb (m .pages e) p z) in
-      sym (I .fine .apart e (first (λ i. eqb (m .pages i) p) 0 (m .tops 2)) (λ y. omega (arith, z, y)) (z ∙ sym (same-of _ (k .0))))
-    where
-      same-of : (x : ℕ) → eqb x p ≡ true → x ≡ p
-      same-of x t = split x p (λ y s. y) (λ y s. no-true (sym s ∙ t))
-
-  entry-none : ((i : ℕ) → m .pages i ≡ p → ⊥) → entryOf m p ≡ m .tops 2
-  unfolding entryOf
-  entry-none a = first-miss (λ i. eqb (m .pages i) p) 0 (m .tops 2) (λ e l h. ne-eqb (m .pages e) p (a e)) ∙ omega arith
+  entry-is e z = entry-at m (I .fine) p e (λ y. omega arith) (inside e z) z
 
   -- the list of a page is that of its entry
   pub list-is : (e : ℕ) → m .pages e ≡ p → listOn m p ≡ m .lists e
@@ -160,7 +155,7 @@ module _ (m : Mem) (I : Indexed m) (p : ℕ) (hp : p < NONE) where
   -- the list of a page that no entry has is 0
   pub list-none : ((i : ℕ) → m .pages i ≡ p → ⊥) → listOn m p ≡ 0
   unfolding listOn
-  list-none a = ap (m .lists) (entry-none a) ∙ I .canonical .lists (m .tops 2) (omega arith)
+  list-none a = ap (m .lists) (entry-none m p (λ i l. a i)) ∙ I .canonical .lists (entryCount m) (omega arith)
 
   -- an entry has the page, or none has it
   pub entry-cases : {Q : Type 0} → ((e : ℕ) → m .pages e ≡ p → entryOf m p ≡ e → listOn m p ≡ m .lists e → Q) → (((i : ℕ) → m .pages i ≡ p → ⊥) → listOn m p ≡ 0 → Q) → Q
@@ -169,13 +164,6 @@ module _ (m : Mem) (I : Indexed m) (p : ℕ) (hp : p < NONE) where
       (λ z t. let a : (i : ℕ) → m .pages i ≡ p → ⊥ = λ i y. z (ap (m .pages) (entry-is i y) ∙ y) in g a (list-none a))
 
 -- ── The back of a list ──
-
-last-in : (a : ℕ) (L : List ℕ) → has L NONE ≡ false → has (a ∷ L) (ahead a L NONE) ≡ true
-unfolding has ahead
-last-in a [] n = simp (eqb-same a)
-last-in a (y ∷ L) n = split NONE y
-    (λ z t. no-true (sym n ∙ simp t))
-    (λ z t. simp t (let k = last-in y L (sym (simp t) ∙ n) in split (ahead y L NONE) a (λ w v. simp v) (λ w v. simp v k)))
 
 -- the back of a list that has something is on it
 pub back-on : (m : Mem) → Indexed m → (j x : ℕ) → has (m .order j) x ≡ true → has (m .order j) (back m j) ≡ true

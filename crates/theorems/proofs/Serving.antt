@@ -1,5 +1,4 @@
 -- The held pages before and after an operation, room for a page, and a request: for every policy, with or without orders.
--- Assumes nothing.
 use Prim.Native.Nat.{ℕ, _<_}
 use mathlib.Core.Path.{_≡_, refl, sym, ap, _∙_, subst}
 use mathlib.Core.Bool.{Bool, true, false}
@@ -11,10 +10,10 @@ use Rattle.meaning.specs.Neighbours.{NONE}
 use Rattle.meaning.specs.Layout.{isHeld}
 use Rattle.meaning.specs.Mem.{Mem}
 use Rattle.meaning.specs.Room.{hit, loaded, swapped, Done, Room, asItIs, hitAt, load}
-use Rattle.meaning.specs.Proper.{Indexed, Seated, Sits}
-use Rattle.meaning.specs.Ram.{Steps}
-use Rattle.meaning.proofs.Numbered.{held-used}
-use Rattle.meaning.proofs.Lists.{split, eqb-same, no-true}
+use Rattle.invariants.specs.Proper.{Indexed, Seated, Sits}
+use Rattle.invariants.specs.Ram.{Steps}
+use Rattle.invariants.proofs.Numbered.{held-used}
+use Rattle.invariants.proofs.Lists.{split, eqb-same, no-true}
 use Rattle.theorems.specs.Change.{Moved, Still, Quiet}
 use Rattle.theorems.specs.Served.{Makes, Served}
 use Rattle.theorems.proofs.Operations.{paged}

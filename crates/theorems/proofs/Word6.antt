@@ -1,25 +1,23 @@
 -- Word 6 and marks stand apart: a directory stays right when they change.
--- Assumes nothing.
 use Prim.Native.Nat.{ℕ}
 use mathlib.Core.Path.{_≡_, sym, ap, _∙_}
 use native.Mathlib.Omega.{arith}
 use borrow.Author.Tests.{ne-eqb}
 use Rattle.meaning.specs.Neighbours.{NONE}
 use Rattle.meaning.specs.Mem.{Mem, held, withWord6, withMark}
-use Rattle.meaning.specs.Places.{Fine}
-use Rattle.meaning.specs.Proper.{Seated, Proper}
-use Rattle.meaning.proofs.Lists.{split}
-use Rattle.theorems.proofs.Operations.{seated}
+use Rattle.invariants.specs.Places.{Fine}
+use Rattle.invariants.specs.Proper.{Seated, Proper}
+use Rattle.invariants.proofs.Lists.{split}
 
 -- word 6 is no part of what is asked of a directory
 pub word6-fine : (m : Mem) (v : ℕ) → Fine m → Fine (withWord6 v m)
 unfolding withWord6
-word6-fine m v F = record { few = F .few; bits = F .bits; linked = F .linked; chains = F .chains; four = F .four; used = F .used; apart = F .apart }
+word6-fine m v F = record { few = F .few; bits = F .bits; linked = F .linked; chains = F .chains; range = F .range; used = F .used; apart = F .apart }
 
 -- nor is a mark
 mark-fine : (m : Mem) (e v : ℕ) → Fine m → Fine (withMark e v m)
 unfolding withMark
-mark-fine m e v F = record { few = F .few; bits = F .bits; linked = F .linked; chains = F .chains; four = F .four; used = F .used; apart = F .apart }
+mark-fine m e v F = record { few = F .few; bits = F .bits; linked = F .linked; chains = F .chains; range = F .range; used = F .used; apart = F .apart }
 
 -- nor of the pages in their slots
 pub word6-seated : (m : Mem) (v : ℕ) → Seated m → Seated (withWord6 v m)
@@ -42,9 +40,7 @@ word6-seated m v P = record {
 
 -- nor of the lists
 pub word6-proper : (m : Mem) (v : ℕ) → Proper m → Proper (withWord6 v m)
-word6-proper m v P =
-    let S = word6-seated m v (seated m P) in
-    record { indexed = S .indexed; ordered = unfold withWord6 in record { listed = P .ordered .listed; idle = P .ordered .idle }; slotted = S .slotted }
+word6-proper m v P = record { seated = word6-seated m v (P .seated); ordered = unfold withWord6 in record { listed = P .ordered .listed; idle = P .ordered .idle } }
 
 -- a used entry may be marked, and any entry unmarked
 pub mark-seated : (m : Mem) (e v : ℕ) → Seated m → ((m .pages e ≡ NONE) → v ≡ 0) → Seated (withMark e v m)

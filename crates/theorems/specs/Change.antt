@@ -1,17 +1,15 @@
 -- How two directories differ, as far as the proofs of the policies follow it.
--- Assumes nothing.
-use Prim.Native.Nat.{ℕ, suc, _≤_, _<_}
+use Prim.Native.Nat.{ℕ, _≤_, _<_}
 use mathlib.Core.Path.{_≡_}
-use mathlib.Core.Bool.{false}
 use mathlib.Core.List.{List, _∷_}
 use Rattle.meaning.specs.Neighbours.{NONE, put}
-use Rattle.meaning.specs.Mem.{Mem, home, held}
-use Rattle.meaning.specs.Proper.{Indexed, Slotted, upTo, Sits}
+use Rattle.meaning.specs.Mem.{Mem, home, entryCount}
+use Rattle.invariants.specs.Proper.{Sits}
 
 -- Entry e goes to list j, and no other entry changes its list, page or slot.
 pub record Moved (e j : ℕ) (m n : Mem) : Type 0 where
-  pub inside : e < m .tops 2
-  pub size : n .tops 2 ≡ m .tops 2
+  pub inside : e < entryCount m
+  pub size : entryCount n ≡ entryCount m
   pub lists : (i : ℕ) → n .lists i ≡ put (m .lists) e j i
   pub pages : (i : ℕ) → (i ≡ e → ⊥) → n .pages i ≡ m .pages i
   pub slots : (i : ℕ) → (i ≡ e → ⊥) → n .slots i ≡ m .slots i
@@ -34,12 +32,6 @@ Calm m n = (i : ℕ) → n .marks i ≤ m .marks i
 pub record Quiet (m n : Mem) : Type 0 where
   pub tops : n .tops ≡ m .tops
   pub marks : Calm m n
-
--- A directory with room for one page, with or without orders: its slots in use are those below held + 1, but for one, s.
-pub record Gap (s : ℕ) (m : Mem) : Type 0 where
-  pub indexed : Indexed m
-  pub fits : s ≤ held m
-  pub slotted : Slotted (put (upTo (suc (held m))) s false) m
 
 -- Entry e with page p, list j and slot s, at the front of the page's chain, and with the orders o: what a new page does to a directory, with or without orders.
 unfoldable pub placed : ℕ → ℕ → ℕ → ℕ → (ℕ → List ℕ) → Mem → Mem

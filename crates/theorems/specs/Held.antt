@@ -1,11 +1,10 @@
 -- The held pages, and how an answer changes them.
--- Assumes nothing.
 use Prim.Native.Nat.{ℕ}
 use mathlib.Core.Path.{_≡_}
 use mathlib.Core.Logic.{_⊎_, _↔_}
 use Rattle.meaning.specs.Mem.{Mem}
 use Rattle.meaning.specs.Room.{Kind, hit, loaded, swapped}
-use Rattle.meaning.specs.Proper.{Sits}
+use Rattle.invariants.specs.Proper.{Sits}
 
 -- Page q is held, in some slot.
 abbrev pub Held : Mem → ℕ → Type 0

@@ -1,8 +1,9 @@
 pub mod Change
 pub mod Served
 pub mod Sizes
-pub mod Turn
-pub mod Plain
+pub mod Goes
+pub mod Short
 pub mod Marked
+pub mod Sweep
 pub mod Held
 pub mod Safe

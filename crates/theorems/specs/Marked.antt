@@ -1,11 +1,10 @@
 -- How many of CLOCK's entries are marked.
--- Assumes nothing.
 use Prim.Native.Nat.{ℕ}
 use mathlib.Core.Bool.{not}
 use lib.Dec.{eqb}
 use Rattle.meaning.specs.Base.{tally}
-use Rattle.meaning.specs.Mem.{Mem}
+use Rattle.meaning.specs.Mem.{Mem, capacityOf}
 
 -- The number of entries with a mark.
 unfoldable pub marked : Mem → ℕ
-marked m = tally (m .tops 1) (λ i. not (eqb (m .marks i) 0))
+marked m = tally (capacityOf m) (λ i. not (eqb (m .marks i) 0))

@@ -1,11 +1,10 @@
 -- What room for a page and a request have to show of the held pages, whatever the policy.
--- Assumes nothing.
 use Prim.Native.Nat.{ℕ, _<_}
 use mathlib.Core.Path.{_≡_}
 use Rattle.meaning.specs.Neighbours.{NONE}
 use Rattle.meaning.specs.Mem.{Mem}
 use Rattle.meaning.specs.Room.{hit, swapped, Done, Room}
-use Rattle.meaning.specs.Proper.{Sits}
+use Rattle.invariants.specs.Proper.{Sits}
 
 -- Room made in m: all held pages stay in their slots but the one put out, which was held in the slot that is now free.
 pub record Makes (m : Mem) (r : Room) : Type 0 where

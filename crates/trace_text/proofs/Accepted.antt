@@ -6,8 +6,8 @@ use mathlib.Core.List.{List, [], _∷_}
 use lib.ListN.{length, getD, take, length-append}
 use lib.Seq.{take-at}
 use native.Mathlib.Omega.{arith}
-use Rattle.meaning.specs.Calls.{over}
-use Rattle.meaning.specs.Text.{lineOf, pageLines, headLines, textOf, pageKey, policyKey, capacityKey, firstKey, secondKey, countKey, line, badHead, head, header, firstWrong, Reading, unread, accepted, readText, readSaid, readLeft}
+use Rattle.meaning.specs.Calls.{Refusal, plain, Said, refused, gave, over}
+use Rattle.meaning.specs.Text.{lineOf, pageLines, headLines, textOf, pageKey, policyKey, capacityKey, firstKey, secondKey, countKey, line, badHead, head, header, firstWrong, Contents, wrongLine, readText, onText, read}
 use Rattle.meaning.specs.declared.ReadText.{ReadText}
 use Rattle.meaning.specs.declared.ReadText.the-variants as reads
 use Rattle.meaning.specs.declared.Written.{Written}
@@ -16,10 +16,9 @@ use Rattle.trace_text.specs.Contracts.{ReadAs, WrittenAs}
 use Rattle.text_lines.proofs.Lines.{by-lt, by-took, line-complete, line-sound}
 use Rattle.trace_text.proofs.Lines.{Words, words-cons, pages-sound, pages-complete, Settings, head-1, head-2, head-3, head-4, head-5, head-6, header-complete, keys, linesThen, keyAfter, NoLine, no-line, is-wrong, Stops}
 use Rattle.text_lines.proofs.Writing.{sets-front}
-use Rattle.trace_text.proofs.Reading.{read-long, read-bad, read-many, read-full, read-wrong, read-all}
+use Rattle.trace_text.proofs.Reading.{holding, read-long, read-bad, read-many, read-full, read-wrong, read-all}
 use Rattle.trace_text.proofs.Writing.{refuses-many, refuses-short, sends}
-use Rattle.meaning.proofs.Injective.{read-settles}
-use Rattle.meaning.proofs.Injective.{no-second, write-settles}
+use Rattle.meaning.proofs.Injective.{no-second, not-given, read-settles, write-settles}
 
 -- What an accepted text is: the text of allowed values, within the length limit, with room for its pages.
 pub record Accepts (text : List ℕ) (room p c f g : ℕ) (ps : List ℕ) : Type 0 where
@@ -89,12 +88,12 @@ by-pages (suc n) l s all some =
 -- ── What a reading says of its text ──
 
 -- Refused with 10: the line is the first wrong one; accepted: the text is the writer's.
-abbrev Means : List ℕ → ℕ → Reading → Type 0
-Means text room (unread n l) = n ≡ 10 → FirstWrong text room l
-Means text room (accepted p c f g ps) = Accepts text room p c f g ps
+abbrev Means : List ℕ → ℕ → Said Contents → Type 0
+Means text room (refused r) = r .number ≡ 10 → FirstWrong text room (r .carried)
+Means text room (gave t) = let s = t .settings in Accepts text room (s .policy) (s .C) (s .first) (s .second) (t .pages)
 
 module _ (text : List ℕ) (room : ℕ) where
-  by : {a : Reading} → readText text room ≡ a → Means text room a → Means text room (readText text room)
+  by : {a : Said Contents} → readText text room ≡ a → Means text room a → Means text room (readText text room)
   by e m = subst (Means text room) (sym e) m
 
   means : Means text room (readText text room)
@@ -136,7 +135,7 @@ unfolding lineOf
 pages-long [] = omega arith
 pages-long (p ∷ ps) = simp length-append (omega (arith, pages-long ps))
 
-text-long : (p c f g : ℕ) (ps : List ℕ) → length ps ≤ length (textOf p c f g ps)
+pub text-long : (p c f g : ℕ) (ps : List ℕ) → length ps ≤ length (textOf p c f g ps)
 unfolding textOf
 text-long p c f g ps = simp length-append (omega (arith, pages-long ps))
 
@@ -149,29 +148,29 @@ module _ (text : List ℕ) (room p c f g : ℕ) (ps : List ℕ) (written : text 
   headed = ap header written ∙ header-complete p c f g (length ps) (pageLines ps) settings (omega (arith, few))
 
   -- With room it is accepted.
-  roomy : length ps ≤ room → readText text room ≡ accepted p c f g ps
+  roomy : length ps ≤ room → readText text room ≡ gave (holding p c f g ps)
   roomy fits =
       let pg = pages-complete ps 6 words in
-      read-all text room short headed few fits (sym (pg .0)) ∙ ap (accepted p c f g) (pg .1)
+      read-all text room short headed few fits (sym (pg .0)) ∙ ap (λ (l : List ℕ). gave (holding p c f g l)) (pg .1)
 
   -- Without room it is refused with 8.
-  crowded : room < length ps → readText text room ≡ unread 8 0
+  crowded : room < length ps → readText text room ≡ refused (plain 8)
   crowded h = read-full text room short headed few h
 
 -- A text is accepted exactly if it is the text of allowed values, within the length limit, with room for its pages; and those values are what is read.
-pub accepted-exactly : (text : List ℕ) (room p c f g : ℕ) (ps : List ℕ) → (readText text room ≡ accepted p c f g ps) ↔ Accepts text room p c f g ps
+pub accepted-exactly : (text : List ℕ) (room p c f g : ℕ) (ps : List ℕ) → (readText text room ≡ gave (holding p c f g ps)) ↔ Accepts text room p c f g ps
 accepted-exactly text room p c f g ps = (
   λ e. subst (Means text room) e (means text room),
   λ a. roomy text room p c f g ps (a .written) (a .short) (a .settings) (a .words) (a .fits),
 )
 
 -- A text that is refused with 10 is no writer's text of allowed values.
-pub refused-unwritten : (text : List ℕ) (room l p c f g : ℕ) (ps : List ℕ) → readText text room ≡ unread 10 l → Settings p c f g → Words ps → text ≡ textOf p c f g ps → ⊥
+pub refused-unwritten : (text : List ℕ) (room l p c f g : ℕ) (ps : List ℕ) → readText text room ≡ refused (wrongLine l) → Settings p c f g → Words ps → text ≡ textOf p c f g ps → ⊥
 refused-unwritten text room l p c f g ps e settings words written =
     let short = subst (Means text room) e (means text room) refl .short in
     by-lt room (length ps)
-    (λ h _. let q : unread 10 l ≡ unread 8 0 = sym e ∙ crowded text room p c f g ps written short settings words h in let z : _≡_ {A = ℕ} 10 8 = cc in omega arith)
-    (λ h _. let q : unread 10 l ≡ accepted p c f g ps = sym e ∙ roomy text room p c f g ps written short settings words h in let z : _≡_ {A = ℕ} 0 1 = cc in omega arith)
+    (λ h _. let q : refused (wrongLine l) ≡ refused (plain 8) = sym e ∙ crowded text room p c f g ps written short settings words h in let k : wrongLine l ≡ plain 8 = cc q in let z : _≡_ {A = ℕ} 10 8 = ap (λ (r : Refusal). r .number) k in omega arith)
+    (λ h _. not-given (sym e ∙ roomy text room p c f g ps written short settings words h))
 
 -- ── Which line is named ──
 
@@ -192,7 +191,7 @@ early i n key rest d (inl h) = h .1
 early i n key rest d (inr h) = absurd (d (h .0))
 
 named : (text : List ℕ) (room : ℕ) (vs rest : List ℕ) → text ≡ linesThen keys vs rest → length text ≤ 65535 → Words vs → Stops (length vs) (5 + getD vs 4 0) (keyAfter keys vs) rest
-    → (5 ≤ length vs → (getD vs 4 0 ≤ 65535) × (getD vs 4 0 ≤ room)) → readText text room ≡ unread 10 (length vs + 1)
+    → (5 ≤ length vs → (getD vs 4 0 ≤ 65535) × (getD vs 4 0 ≤ room)) → readText text room ≡ refused (wrongLine (length vs + 1))
 named text room [] rest q short w h k =
     read-bad text room short (ap header q ∙ sym (head-1 rest (is-wrong policyKey rest (early 0 5 policyKey rest (omega arith) h))))
 named text room (p ∷ []) rest q short w h k =
@@ -209,13 +208,13 @@ named text room (p ∷ c ∷ f ∷ g ∷ n ∷ vs) rest q short w h k =
     let b = k (omega arith) in
     let e = ap header q ∙ header-complete p c f g n (linesThen [] vs rest) (w 0, w 1, w 2, w 3) (w 4) in
     let x = pages-wrong vs n 6 rest (λ i. w (suc (suc (suc (suc (suc i)))))) (shift (length (p ∷ c ∷ f ∷ g ∷ n ∷ vs)) (5 + n) (length vs) n rest (omega arith) h) in
-    read-wrong text room short e (b .0) (b .1) (6 + length vs) (sym x) (omega arith) ∙ ap (unread 10) (omega arith)
+    read-wrong text room short e (b .0) (b .1) (6 + length vs) (sym x) (omega arith) ∙ ap (λ (k : ℕ). refused (wrongLine k)) (omega arith)
 
 -- A text is refused with 10 and a line exactly if that is its first wrong line.
-pub wrong-exactly : (text : List ℕ) (room l : ℕ) → (readText text room ≡ unread 10 l) ↔ FirstWrong text room l
+pub wrong-exactly : (text : List ℕ) (room l : ℕ) → (readText text room ≡ refused (wrongLine l)) ↔ FirstWrong text room l
 wrong-exactly text room l = (
   λ e. subst (Means text room) e (means text room) refl,
-  λ w. named text room (w .before) (w .rest) (w .lines) (w .short) (w .values) (w .here) (w .fits) ∙ ap (unread 10) (sym (w .number)),
+  λ w. named text room (w .before) (w .rest) (w .lines) (w .short) (w .values) (w .here) (w .fits) ∙ ap (λ (k : ℕ). refused (wrongLine k)) (sym (w .number)),
 )
 
 -- ── What is written is what is read ──
@@ -224,7 +223,8 @@ wrong-exactly text room l = (
 once : {p c f g : ℕ} {trace before : List ℕ} {r r′ : Written} {after after′ : List ℕ} → WrittenAs p c f g trace before r after → WrittenAs p c f g trace before r′ after′ → (r ≡ r′) × (after ≡ after′)
 once x y = no-second write-settles (x .answer, x .memory) (y .answer, y .memory)
 
-sent : {p c f g n : ℕ} {trace buffer text : List ℕ} → WrittenAs p c f g trace buffer (writes.Length n) text → (n ≡ length (textOf p c f g trace)) × (text ≡ over (textOf p c f g trace) buffer)
+-- what a length that was given tells
+pub sent : {p c f g n : ℕ} {trace buffer text : List ℕ} → WrittenAs p c f g trace buffer (writes.Length n) text → (n ≡ length (textOf p c f g trace)) × (text ≡ over (textOf p c f g trace) buffer)
 sent {p} {c} {f} {g} {n} {trace} {buffer} w =
     by-lt 65535 (length trace)
     (λ h _. let q = once w (refuses-many p c f g trace buffer h) .0 in let z : _≡_ {A = ℕ} 0 1 = cc in absurd (omega arith))
@@ -235,9 +235,9 @@ sent {p} {c} {f} {g} {n} {trace} {buffer} w =
 -- Where `write` gave a length within the limit, `read` of the bytes written, with room, accepts the same settings and stores the same trace.
 pub written-read : {p c f g n : ℕ} {trace buffer text back after : List ℕ} {r : ReadText} → WrittenAs p c f g trace buffer (writes.Length n) text → Settings p c f g → Words trace
     → n ≤ 65535 → length trace ≤ length back → ReadAs (take n text) back r after → (r ≡ reads.Accepted p c f g (length trace)) × (after ≡ over trace back)
-unfolding over
+unfolding over read
 written-read {p} {c} {f} {g} {n} {trace} {buffer} {text} {back} {after} {r} w settings words short fits x =
     let q = sent w in
     let t : take n text ≡ textOf p c f g trace = ap (take n) (q .1) ∙ take-at (textOf p c f g trace) _ n (sym (q .0)) in
     let e = roomy (take n text) (length back) p c f g trace t (omega (arith, ap length t, q .0)) settings words fits in
-    (read-settles r (reads.Accepted p c f g (length trace)) (x .answer ∙ ap readSaid e), x .memory ∙ ap (λ (a : Reading). readLeft a back) e)
+    (read-settles r (reads.Accepted p c f g (length trace)) (x .answer ∙ ap (λ (a : Said Contents). onText a back .said) e), x .memory ∙ ap (λ (a : Said Contents). onText a back .left) e)

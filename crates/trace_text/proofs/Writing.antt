@@ -6,7 +6,10 @@ use lib.ListN.{length, getD, drop, length-append}
 use lib.Seq.{sets}
 use borrow.Author.Tests.{lt-ltb, le-ltb}
 use native.Mathlib.Omega.{arith}
-use Rattle.meaning.specs.Calls.{Outcome, refused, gave, refuse, over}
+use Rattle.meaning.specs.declared.Refusal.{Refusal}
+use Rattle.meaning.specs.Calls.{plain, Outcome, gave, refuse, over}
+use Rattle.meaning.specs.Answers.{refusalSays}
+use Rattle.meaning.proofs.Injective.{asStruct}
 use Rattle.meaning.specs.Text.{lineOf, pageLines, textOf, pageKey, policyKey, capacityKey, firstKey, secondKey, countKey, wrote}
 use Rattle.meaning.specs.declared.Written.the-variants as writes
 use Rattle.trace_text.specs.Contracts.{WrittenAs}
@@ -52,16 +55,17 @@ text-put l p c f g ps {l₁} {l₂} {l₃} {l₄} {l₅} {l₆} {r₁} {r₂} {r
 -- ── The promise by what the code tests, in its order ──
 
 module _ (p c f g : ℕ) (trace out : List ℕ) where
-  refuses : {n : ℕ} → wrote p c f g trace out ≡ record { said = refused n; left = out } → WrittenAs p c f g trace out (writes.Refused n) out
-  refuses e = record { answer = ap (λ (o : Outcome ℕ). o .said) (sym e); memory = ap (λ (o : Outcome ℕ). o .left) (sym e) }
+  refuses : {r : Refusal} → wrote p c f g trace out ≡ refuse (refusalSays r) out → WrittenAs p c f g trace out (writes.Refused r) out
+  unfolding refuse
+  refuses e = record { answer = ap (λ (o : Outcome ℕ (List ℕ)). o .said) (sym e); memory = ap (λ (o : Outcome ℕ (List ℕ)). o .left) (sym e) }
 
   -- A trace that is too long is refused.
-  pub refuses-many : 65535 < length trace → WrittenAs p c f g trace out (writes.Refused 7) out
+  pub refuses-many : 65535 < length trace → WrittenAs p c f g trace out (writes.Refused (asStruct (plain 7))) out
   unfolding wrote refuse
   refuses-many h = refuses (simp (lt-ltb 65535 (length trace) h))
 
   -- A buffer that is too short is refused.
-  pub refuses-short : {n : ℕ} → length trace ≤ 65535 → n ≡ length (textOf p c f g trace) → length out < n → WrittenAs p c f g trace out (writes.Refused 8) out
+  pub refuses-short : {n : ℕ} → length trace ≤ 65535 → n ≡ length (textOf p c f g trace) → length out < n → WrittenAs p c f g trace out (writes.Refused (asStruct (plain 8))) out
   unfolding wrote refuse
   refuses-short h q k = refuses (simp (le-ltb 65535 (length trace) h, lt-ltb (length out) (length (textOf p c f g trace)) (omega arith)))
 
@@ -73,6 +77,6 @@ module _ (p c f g : ℕ) (trace out : List ℕ) where
       let r : wrote p c f g trace out ≡ record { said = gave (length (textOf p c f g trace)); left = over (textOf p c f g trace) out }
       = simp (le-ltb 65535 (length trace) h, le-ltb (length out) (length (textOf p c f g trace)) (omega arith)) in
       record {
-        answer = ap gave q ∙ ap (λ (o : Outcome ℕ). o .said) (sym r);
-        memory = e ∙ sets-front out (textOf p c f g trace) (omega arith) ∙ ap (λ (o : Outcome ℕ). o .left) (sym r);
+        answer = ap gave q ∙ ap (λ (o : Outcome ℕ (List ℕ)). o .said) (sym r);
+        memory = e ∙ sets-front out (textOf p c f g trace) (omega arith) ∙ ap (λ (o : Outcome ℕ (List ℕ)). o .left) (sym r);
       }

@@ -2,8 +2,8 @@
 use Prim.Native.Nat.{ℕ}
 use mathlib.Core.Path.{_≡_}
 use mathlib.Core.List.{List}
-use lib.ListN.{length, drop}
-use Rattle.meaning.specs.Text.{Header, badHead, head, readText, readSaid, readLeft, wrote}
+use lib.ListN.{drop}
+use Rattle.meaning.specs.Text.{Header, badHead, head, read, wrote}
 use Rattle.meaning.specs.Answers.{readSays, writeSays}
 use Rattle.meaning.specs.declared.ReadText.{ReadText}
 use Rattle.meaning.specs.declared.Written.{Written}
@@ -17,8 +17,8 @@ headOf text (heads.Wrong l) = badHead l
 
 -- What `read` promises: its answer, and the trace buffer afterwards.
 pub record ReadAs (text before : List ℕ) (r : ReadText) (after : List ℕ) : Type 0 where
-  pub answer : readSays r ≡ readSaid (readText text (length before))
-  pub memory : after ≡ readLeft (readText text (length before)) before
+  pub answer : readSays r ≡ read text before .said
+  pub memory : after ≡ read text before .left
 
 -- What `write` promises: its answer, and the text buffer afterwards.
 pub record WrittenAs (p c f g : ℕ) (trace before : List ℕ) (r : Written) (after : List ℕ) : Type 0 where

@@ -3,10 +3,13 @@ ghost use mathlib.Core.Path.{_≡_};
 ghost use Prim.Native.Nat.{_+_, _≤_};
 ghost use lib.ListN.{length, drop};
 ghost use lib.Seq.{sets};
-ghost use Rattle.meaning.specs.Text.{line as Text·line, header as Text·header, firstWrong, pagesIn, pageKey, lineOf, pageLines, textOf};
+ghost use Rattle.meaning.specs.Text.{line as Text·line, head, header as Text·header, firstWrong, pagesIn, pageKey, lineOf, pageLines, textOf};
 ghost use Rattle.trace_text.specs.Contracts.{headOf, ReadAs, WrittenAs};
 ghost use Rattle.text_lines.specs.Lines.{tookOf};
 use meaning::ReadText;
+use meaning::Refusal;
+use meaning::TOO_LONG;
+use meaning::TOO_SHORT;
 use meaning::Written;
 use text_lines::Line;
 use text_lines::digits;
@@ -96,16 +99,57 @@ fn store(text: &[u8], start: usize, count: usize, trace: &mut [u32])
     }
 }
 
-// Reads a trace text: a refusal changes no word of `trace`, and no page is stored before the last line is checked.
+// After the lines 1 to 5: refuses 7 (count), 8 (trace buffer under count) or 10 (page lines), or stores the pages; none is stored before the last line is checked.
+fn read_pages(
+    text: &[u8],
+    next: usize,
+    policy: u32,
+    capacity: u32,
+    first: u32,
+    second: u32,
+    count: u32,
+    trace: &mut [u32],
+) -> ReadText
+    requires { ⌜ (length (now text) ≤ 65535) × (Text·header (now text) ≡ head policy capacity first second count (drop next (now text))) ⌝ }
+    ensures { λ r. ⌜ ReadAs (now (text .entry)) (now (trace .entry)) r (now (trace .exit)) ⌝ }
+{
+    if count > 65535 {
+        return ReadText::Refused(TOO_LONG);
+    }
+    let n = count as usize;
+    let line = first_wrong(text, next, count);
+    if trace.len() < n {
+        return ReadText::Refused(TOO_SHORT);
+    }
+    if line != 0 {
+        return ReadText::Refused(Refusal {
+            number: 10,
+            carried: line,
+        });
+    }
+    store(text, next, n, trace);
+    ReadText::Accepted {
+        policy,
+        capacity,
+        first,
+        second,
+        count,
+    }
+}
+
+// Reads a trace text: a refusal changes no word of `trace`.
 pub fn read(text: &[u8], trace: &mut [u32]) -> ReadText
     ensures { λ r. ⌜ ReadAs (now (text .entry)) (now (trace .entry)) r (now (trace .exit)) ⌝ }
 {
     if text.len() > 65535 {
-        return ReadText::Refused { number: 7, line: 0 };
+        return ReadText::Refused(TOO_LONG);
     }
     let h = head_at(text);
     match h {
-        Head::Wrong(line) => ReadText::Refused { number: 10, line },
+        Head::Wrong(line) => ReadText::Refused(Refusal {
+            number: 10,
+            carried: line,
+        }),
         Head::Right {
             policy,
             capacity,
@@ -113,27 +157,7 @@ pub fn read(text: &[u8], trace: &mut [u32]) -> ReadText
             second,
             count,
             next,
-        } => {
-            if count > 65535 {
-                return ReadText::Refused { number: 7, line: 0 };
-            }
-            let n = count as usize;
-            let line = first_wrong(text, next, count);
-            if trace.len() < n {
-                return ReadText::Refused { number: 8, line: 0 };
-            }
-            if line != 0 {
-                return ReadText::Refused { number: 10, line };
-            }
-            store(text, next, n, trace);
-            ReadText::Accepted {
-                policy,
-                capacity,
-                first,
-                second,
-                count,
-            }
-        }
+        } => read_pages(text, next, policy, capacity, first, second, count, trace),
     }
 }
 
@@ -211,11 +235,11 @@ pub fn write(
     ensures { λ r. ⌜ WrittenAs policy capacity first second (now (trace .entry)) (now (text .entry)) r (now (text .exit)) ⌝ }
 {
     if trace.len() > 65535 {
-        return Written::Refused { number: 7 };
+        return Written::Refused(TOO_LONG);
     }
     let n = text_len(policy, capacity, first, second, trace);
     if text.len() < n {
-        return Written::Refused { number: 8 };
+        return Written::Refused(TOO_SHORT);
     }
     put_text(text, policy, capacity, first, second, trace);
     Written::Length { bytes: n as u32 }

@@ -1,5 +1,4 @@
 -- The definitions agree with the second program on every request and every damage that it wrote down, by computation.
--- Assumes nothing.
 use lib.Dec.{T}
 use Rattle.meaning.specs.Base.{all}
 use Rattle.meaning.specs.Text.{openText}

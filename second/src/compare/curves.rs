@@ -1,20 +1,14 @@
-//! The curve: short traces against the model, long ones against depths and, at some capacities, against the model.
+//! The curve: short traces against the model's directories, long ones against an LRU for each capacity and, at some capacities, against the model's directories.
 
 use crate::calls::{form, replay, report, words_for};
 use crate::random::{page_pool, trace_over, Random};
-use crate::refusal::Refusal;
 use crate::settings::{LARGEST_CAPACITY, LONGEST, NONE};
 
+use super::apart::SHORT;
 use super::bench::Bench;
-use super::call::{Call, Curve};
-use super::forming::{garbage, CAPACITIES};
-use super::library::Library;
-use super::requests::{chosen_traces, LONG_CAPACITIES};
+use super::call::{Call, Curve, Seen};
 use super::shapes::Shape;
-use super::side::Side;
-
-/// Requests of a short trace times capacities, at most.
-const SHORT: usize = 40_000;
+use super::stock::{chosen_traces, garbage, CAPACITIES, LONG_CAPACITIES};
 
 /// Pages of a long trace.
 const LONG: usize = 60_000;
@@ -24,10 +18,10 @@ const SHORT_TRACES: usize = 10_000;
 
 /// Compares pd_curve.
 pub fn run(bench: &mut Bench, random: &mut Random, scale: usize) {
+    refusals(bench, random);
     for _ in 0..SHORT_TRACES * scale {
         short(bench, random);
     }
-    refusals(bench, random);
     for round in 0..2 * scale {
         long(bench, random, round % 2 == 0);
     }
@@ -35,11 +29,6 @@ pub fn run(bench: &mut Bench, random: &mut Random, scale: usize) {
         shapes(bench, random, capacity);
     }
     longest(bench, random);
-}
-
-/// Whether the model, which runs each capacity apart, would be slow.
-pub fn is_long(largest: u32, trace: &[u32]) -> bool {
-    largest as usize * trace.len() > SHORT
 }
 
 /// A trace over a pool of random size.
@@ -50,8 +39,14 @@ fn trace(random: &mut Random, length: usize, most_pages: usize) -> Vec<u32> {
     trace_over(random, &pool, length)
 }
 
-/// Compares one curve, with buffers that are longer by the given words.
-fn curve(bench: &mut Bench, random: &mut Random, what: &str, of: (u32, &[u32]), more: [usize; 2]) {
+/// Compares one curve, with buffers that are longer by the given words, and gives what was seen.
+fn curve(
+    bench: &mut Bench,
+    random: &mut Random,
+    what: &str,
+    of: (u32, &[u32]),
+    more: [usize; 2],
+) -> Option<Seen> {
     let (largest, trace) = of;
     let needed = largest.min(LARGEST_CAPACITY + 1) as usize;
     let result = garbage(random, needed + more[0]);
@@ -64,7 +59,7 @@ fn curve(bench: &mut Bench, random: &mut Random, what: &str, of: (u32, &[u32]), 
             result: &result,
             work: &work,
         }),
-    );
+    )
 }
 
 /// A short trace, with buffers that are exact or longer.
@@ -116,32 +111,33 @@ fn shapes(bench: &mut Bench, random: &mut Random, capacity: u32) {
             return;
         }
         let trace = shape.trace(random, capacity);
-        curve(bench, random, shape.name(), (capacity, &trace), [0, 3]);
+        whole_and_parts(bench, random, shape.name(), (capacity, &trace));
     }
 }
 
-/// A long trace at capacity 512, also against the model's directories of some capacities.
+/// A long trace of random pages at capacity 512.
 fn long(bench: &mut Bench, random: &mut Random, near: bool) {
     if bench.is_done() {
         return;
     }
     let trace = trace(random, LONG, if near { 700 } else { 3_000 });
-    let buffer = garbage(random, LARGEST_CAPACITY as usize + 3);
-    let call = Call::Curve(Curve {
-        largest: LARGEST_CAPACITY,
-        trace: &trace,
-        result: &buffer,
-        work: &buffer,
-    });
-    bench.compare("a long trace", &call);
-    let seen = Library::seen(&call);
-    for capacity in CAPACITIES {
-        let (hits, pages) = lru(capacity, &trace);
+    let of = (LARGEST_CAPACITY, &trace[..]);
+    whole_and_parts(bench, random, "a long trace", of);
+}
+
+/// A long trace, also against the model's directories of some capacities.
+fn whole_and_parts(bench: &mut Bench, random: &mut Random, what: &str, of: (u32, &[u32])) {
+    let (largest, trace) = of;
+    let Some(seen) = curve(bench, random, what, of, [0, 3]) else {
+        return;
+    };
+    let what = format!("{what} at one capacity");
+    for capacity in CAPACITIES.into_iter().filter(|one| *one <= largest) {
+        let (hits, pages) = lru(capacity, trace);
         let place = capacity as usize - 1;
-        let what = "a long trace at one capacity";
-        bench.compare_words("pd_curve", what, &seen.lent[1][place..=place], &[hits]);
+        bench.compare_words("pd_curve", &what, &seen.lent[1][place..=place], &[hits]);
         let front = &seen.lent[2][..pages.len()];
-        bench.compare_words("pd_curve", what, front, &pages);
+        bench.compare_words("pd_curve", &what, front, &pages);
     }
 }
 
@@ -163,49 +159,4 @@ fn lru(capacity: u32, trace: &[u32]) -> (u32, Vec<u32>) {
     let count = report(&words, 1, &mut pages).expect("a list of LRU");
     pages.truncate(count as usize);
     (counts.hits, pages)
-}
-
-/// The curve by the depth of each page in one list.
-pub fn by_depths(
-    largest: u32,
-    trace: &[u32],
-    result: &mut [u32],
-    work: &mut [u32],
-) -> Result<(), Refusal> {
-    let count = largest as usize;
-    if !(1..=LARGEST_CAPACITY).contains(&largest) {
-        return Err(Refusal::CapacityRange);
-    }
-    if trace.len() > LONGEST {
-        return Err(Refusal::TooLong);
-    }
-    if trace.contains(&NONE) {
-        return Err(Refusal::NotAPage);
-    }
-    if result.len() < count || work.len() < count {
-        return Err(Refusal::BufferTooShort);
-    }
-    let (list, depths) = depths(count, trace);
-    for capacity in 1..=count {
-        result[capacity - 1] = depths[..capacity].iter().sum();
-        work[capacity - 1] = list.get(capacity - 1).copied().unwrap_or(NONE);
-    }
-    Ok(())
-}
-
-/// The last pages, latest first, and how often a page was found at each depth.
-fn depths(count: usize, trace: &[u32]) -> (Vec<u32>, Vec<u32>) {
-    let mut list: Vec<u32> = Vec::with_capacity(count + 1);
-    let mut depths = vec![0; count];
-    for page in trace {
-        match list.iter().position(|other| other == page) {
-            Some(depth) => {
-                depths[depth] += 1;
-                list.remove(depth);
-            }
-            None => list.truncate(count - 1),
-        }
-        list.insert(0, *page);
-    }
-    (list, depths)
 }

@@ -2,13 +2,12 @@
 
 use crate::codec::encode;
 use crate::model::{Directory, Member};
-use crate::policies;
-use crate::random::{page_pool, settings_at, sound_directory, trace_over, Random};
-use crate::settings::{Policy, Settings, ENTRY_WORDS, HEADER_WORDS, NONE};
+use crate::random::{page_pool, settings_at, sound_directory, Random};
+use crate::settings::{Policy, ENTRY_WORDS, HEADER_WORDS, NONE};
 
 use super::bench::Bench;
 use super::call::{Audit, Call, Look, Report};
-use super::forming::{garbage, CAPACITIES};
+use super::stock::{garbage, reached_directory, CAPACITIES};
 
 /// The largest capacity of which every single word is changed.
 const SMALL: u32 = 3;
@@ -73,16 +72,6 @@ fn of_capacity(bench: &mut Bench, random: &mut Random, policy: Policy, capacity:
         }
         random_damages(bench, random, &words, &pool);
     }
-}
-
-/// The directory after some requests of a fresh one.
-pub fn reached_directory(random: &mut Random, settings: Settings, pool: &[u32]) -> Directory {
-    let mut directory = Directory::fresh(settings);
-    let length = random.below(4 * settings.capacity as usize + 4);
-    for page in trace_over(random, pool, length) {
-        policies::request(&mut directory, page);
-    }
-    directory
 }
 
 /// A sound directory: every list with every kind of buffer, pages of every kind, and lengths off by one.

@@ -6,10 +6,10 @@ use crate::refusal::Refusal;
 use crate::settings::NONE;
 use crate::text;
 
+use super::apart;
 use super::call::{
     widened, Audit, Curve, Form, Look, Read, Replay, Report, Request, Seen, Words, Write,
 };
-use super::curves;
 use super::side::Side;
 
 /// A number returned and the lent stretches afterwards.
@@ -80,12 +80,12 @@ impl Side for Expected {
         answered(outcome, vec![call.words.to_vec(), result], call.answer)
     }
 
-    /// What C is to see of pd_curve: by the model for a short trace, by depths for a long one.
+    /// What C is to see of pd_curve: by the model's directories for a short trace, by an LRU for each capacity for a long one.
     fn curve(call: &Curve) -> Seen {
         let (largest, trace) = (call.largest, call.trace);
         let (mut hits, mut list) = (call.result.to_vec(), call.work.to_vec());
-        let outcome = if curves::is_long(largest, trace) {
-            curves::by_depths(largest, trace, &mut hits, &mut list)
+        let outcome = if apart::is_long(largest, trace) {
+            apart::curve(largest, trace, &mut hits, &mut list)
         } else {
             calls::curve(largest, trace, &mut hits, &mut list)
         };

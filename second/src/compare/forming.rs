@@ -6,9 +6,7 @@ use crate::settings::{Policy, NONE};
 
 use super::bench::Bench;
 use super::call::{Call, Form, Words};
-
-/// Capacities that are compared with every policy.
-pub const CAPACITIES: [u32; 8] = [1, 2, 3, 7, 8, 64, 511, 512];
+use super::stock::{garbage, CAPACITIES};
 
 /// Capacities at and past the ends of the range.
 const EDGES: [u32; 8] = [0, 4, 63, 65, 510, 513, 1024, NONE];
@@ -105,15 +103,4 @@ fn form_lengths(bench: &mut Bench, random: &mut Random, settings: [u32; 4]) {
             }),
         );
     }
-}
-
-/// Words of any kind.
-pub fn garbage(random: &mut Random, length: usize) -> Vec<u32> {
-    (0..length)
-        .map(|_| match random.below(4) {
-            0 => NONE,
-            1 => random.below(10) as u32,
-            _ => random.next() as u32,
-        })
-        .collect()
 }

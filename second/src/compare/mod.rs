@@ -1,5 +1,7 @@
 //! The comparison of the static library with the model: what every function for C returns, every lent word afterwards, and the memory around.
 
+mod apart;
+mod asking;
 mod bench;
 mod call;
 mod curves;
@@ -13,6 +15,7 @@ mod requests;
 mod shapes;
 mod side;
 mod slips;
+mod stock;
 mod texts;
 
 use crate::command::fail;

@@ -5,8 +5,8 @@ use crate::model::Directory;
 use crate::random::{page_pool, Random};
 use crate::settings::{Policy, Settings};
 
+use super::asking::{ask, replay};
 use super::bench::Bench;
-use super::requests::{ask, replay};
 
 /// The capacities whose settings are all walked.
 const CAPACITIES: [u32; 3] = [1, 2, 3];

@@ -3,14 +3,13 @@
 use crate::codec::encode;
 use crate::model::Directory;
 use crate::random::{page_pool, settings_at, sound_directory, trace_over, Random};
-use crate::settings::{Policy, LONGEST, NONE};
+use crate::settings::{Policy, NONE};
 
+use super::asking::{ask, replay};
 use super::bench::Bench;
-use super::call::{Call, Replay, Request};
-use super::directories::reached_directory;
-use super::forming::{garbage, CAPACITIES};
 use super::orders;
 use super::shapes::Shape;
+use super::stock::{chosen_traces, garbage, reached_directory, CAPACITIES, LONG_CAPACITIES};
 
 /// Random sound directories of each policy and small capacity, for each unit of scale.
 const ROUNDS: usize = 60;
@@ -20,9 +19,6 @@ const STEPS: usize = 60;
 
 /// Damaged directories of each policy for each unit of scale.
 const DAMAGED: usize = 600;
-
-/// Capacities of the long replays.
-pub const LONG_CAPACITIES: [u32; 2] = [64, 512];
 
 /// Compares pd_request and pd_replay.
 pub fn run(bench: &mut Bench, random: &mut Random, scale: usize) {
@@ -116,31 +112,6 @@ fn refusals(bench: &mut Bench, random: &mut Random, policy: Policy) {
     }
 }
 
-/// Traces that are empty, plain, with NONE at the front, inside or at the back, longest, and too long without and with NONE.
-pub fn chosen_traces(random: &mut Random) -> [Vec<u32>; 8] {
-    let pool = page_pool(random, 10, false);
-    let plain = trace_over(random, &pool, 30);
-    let longest = trace_over(random, &pool, LONGEST);
-    let too_long = trace_over(random, &pool, LONGEST + 1);
-    [
-        Vec::new(),
-        with_none(&plain, 0),
-        with_none(&plain, 15),
-        with_none(&plain, 29),
-        plain,
-        longest,
-        with_none(&too_long, 7),
-        too_long,
-    ]
-}
-
-/// The trace with NONE at a place.
-fn with_none(trace: &[u32], place: usize) -> Vec<u32> {
-    let mut trace = trace.to_vec();
-    trace[place] = NONE;
-    trace
-}
-
 /// Long replays of every shape.
 fn long(bench: &mut Bench, random: &mut Random, policy: Policy) {
     for capacity in LONG_CAPACITIES {
@@ -154,34 +125,4 @@ fn long(bench: &mut Bench, random: &mut Random, policy: Policy) {
             replay(bench, random, shape.name(), &words, &trace);
         }
     }
-}
-
-/// Compares a request and gives the words that the library left.
-pub fn ask(
-    bench: &mut Bench,
-    random: &mut Random,
-    what: &str,
-    words: &[u32],
-    page: u32,
-) -> Option<Vec<u32>> {
-    let answer = [0; 4].map(|_: u32| random.next() as u32);
-    let call = Call::Request(Request {
-        words,
-        page,
-        answer,
-    });
-    bench.compare(what, &call)?.lent.into_iter().next()
-}
-
-/// Compares a replay.
-pub fn replay(bench: &mut Bench, random: &mut Random, what: &str, words: &[u32], trace: &[u32]) {
-    let answer = [0; 3].map(|_: u32| random.next() as u32);
-    bench.compare(
-        what,
-        &Call::Replay(Replay {
-            words,
-            trace,
-            answer,
-        }),
-    );
 }

@@ -6,7 +6,7 @@ use crate::settings::{LONGEST, NONE};
 
 use super::bench::Bench;
 use super::call::{Call, Read, Write};
-use super::forming::garbage;
+use super::stock::garbage;
 
 /// Generated texts for each unit of scale.
 const TEXTS: usize = 5_000;

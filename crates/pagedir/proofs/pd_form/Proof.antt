@@ -2,7 +2,7 @@ use borrow.Author.Needs.{needs}
 use Rattle.pagedir.proofs.pd_form.Statement.{statement}
 use Rattle.pagedir.proofs.pd_form.Tie as tie
 use Rattle.meaning.specs.Calls.{refused, gave}
-use Rattle.meaning.specs.Answers.{formSays}
+use Rattle.meaning.specs.Answers.{refusalSays, formSays}
 use Rattle.meaning.proofs.Injective.{case}
 use Rattle.pagedir.proofs.Laws.{leaves}
 
@@ -16,5 +16,5 @@ pd-form-spec =
     (λ c. search needs)  -- same-length
     (λ c. leaves (gave tt) (case formSays (c .before .before .before .before .form .ensures .answer) (c .enum-told .given .1)) (c .before .before .before .before .form .ensures .memory))  -- returns
     (λ c. search needs)  -- same-length-2
-    (λ c. leaves (refused (c .before .r .given .0 .0)) (case formSays (c .before .before .before .before .before .form .ensures .answer) (c .before .r .given .1)) (c .before .before .before .before .before .form .ensures .memory))  -- returns-2
+    (λ c. leaves (refused (refusalSays (c .before .r .given .0 .0))) (case formSays (c .before .before .before .before .before .form .ensures .answer) (c .before .r .given .1)) (c .before .before .before .before .before .form .ensures .memory))  -- returns-2
     )

@@ -1,9 +1,12 @@
 use borrow.Author.Needs.{needs}
 use Rattle.pagedir.proofs.pd_read.Statement.{statement}
 use Rattle.pagedir.proofs.pd_read.Tie as tie
-use mathlib.Core.Path.{refl}
 use Rattle.meaning.specs.declared.ReadText.the-variants as answer
-use Rattle.pagedir.proofs.Laws.{heard}
+use Rattle.meaning.specs.Calls.{refused}
+use Rattle.meaning.specs.Answers.{refusalSays, readSays}
+use Rattle.meaning.proofs.Injective.{case}
+use Rattle.pagedir.specs.Promises.{numberAndLine, readWords}
+use Rattle.pagedir.proofs.Laws.{tells-and}
 
 pub pd-read-spec : {M : Type 1} → statement M
 pd-read-spec =
@@ -19,7 +22,11 @@ pd-read-spec =
     (λ c. search needs)  -- enum-known-r-2
     (λ c κs. search needs)  -- refusal-at-requires
     (λ c. search needs)  -- same-length
-    (λ c. heard (answer.Accepted (c .before .r .given .0 .0) (c .before .r .given .0 .1 .0) (c .before .r .given .0 .1 .1 .0) (c .before .r .given .0 .1 .1 .1 .0) (c .before .r .given .0 .1 .1 .1 .1 .0)) (c .before .before .before .before .before .read .ensures) (c .before .r .given .1) refl)  -- returns
+    -- returns
+    (λ c. let k = c .before .before .before .before .before .read .ensures in let g = c .before .r .given in
+    tells-and numberAndLine readWords (readSays (answer.Accepted (g .0 .0) (g .0 .1 .0) (g .0 .1 .1 .0) (g .0 .1 .1 .1 .0) (g .0 .1 .1 .1 .1 .0))) (case readSays (k .answer) (g .1)) (k .memory))
     (λ c. search needs)  -- same-length-2
-    (λ c. heard (answer.Refused (c .before .before .r2 .given .0 .0) (c .before .before .r2 .given .0 .1 .0)) (c .before .before .before .before .before .before .read .ensures) (c .before .before .r2 .given .1) (c .refusal-at .ensures))  -- returns-2
+    -- returns-2
+    (λ c. let k = c .before .before .before .before .before .before .read .ensures in let g = c .before .before .r2 .given in
+    rw (c .refusal-at .ensures) (tells-and numberAndLine readWords (refused (refusalSays (g .0 .0))) (case readSays (k .answer) (g .1)) (k .memory)))
     )

@@ -6,7 +6,7 @@ use Rattle.replay_program.proofs.main.Tie as tie
 
 -- The five lines stand in the buffer.
 within : tie.Need-array-share-prefix-out
-within c = c .write-five .ensures .1
+within c = c .answer .ensures .1
 
 -- As many bytes are written as the lines take.
 exact : tie.Need-slice-aggregate-write-all
@@ -20,11 +20,8 @@ main-spec =
     (λ c. search needs)  -- slice-aggregate-read-full
     (λ c κs. search needs)  -- read-full-requires
     (λ c. search needs)  -- array-share-prefix-text
-    (λ c. search needs)  -- slice-aggregate-replay-text
-    (λ c. search needs)  -- slice-aggregate-replay-text-2
-    (λ c. search needs)  -- slice-aggregate-replay-text-3
-    (λ c κs. search needs)  -- replay-text-requires
-    (λ c κs. search needs)  -- write-five-requires
+    (λ c. search needs)  -- slice-aggregate-answer
+    (λ c κs. search needs)  -- answer-requires
     within
     exact
     (λ c κs. search needs)  -- write-all-requires

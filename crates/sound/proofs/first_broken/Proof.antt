@@ -1,13 +1,13 @@
-use mathlib.Core.Path.{_≡_, sym, _∙_}
+use mathlib.Core.Path.{_≡_, refl, sym, _∙_}
 use mathlib.Core.Bool.{not}
 use mathlib.Core.List.{List}
 use Prim.Native.Nat.{ℕ}
 use borrow.Author.Needs.{needs}
 use Rattle.meaning.specs.Base.{if_then_else_}
 use Rattle.meaning.specs.Rules.{ruleA, ruleB, ruleC, ruleD, ruleE, ruleF, ruleG, ruleH, broken}
-use Rattle.sound.specs.Sized.{Sized}
-use Rattle.meaning.proofs.Tests.{yes, stop, pass}
-use Rattle.sound.proofs.Sizes.{sized}
+use Rattle.readers.specs.Sized.{Sized}
+use Rattle.invariants.proofs.Tests.{yes, stop, pass}
+use Rattle.readers.proofs.Sizes.{sized}
 use Rattle.sound.proofs.first_broken.Statement.{statement}
 use Rattle.sound.proofs.first_broken.Tie as tie
 
@@ -64,31 +64,31 @@ at8 c = at7 (c .before .before)
 -- what is left to judge, past each rule
 past1 : (c : tie.Else1) → broken (at1 c) ≡ from2 (at1 c)
 unfolding broken
-past1 c = pass 1 (from2 (at1 c)) (c .before .rule-a .ensures) (c .if1 .left)
+past1 c = pass {t = ruleA (at1 c)} 1 (from2 (at1 c)) refl (cc)
 
 past2 : (c : tie.Else2) → broken (at2 c) ≡ from3 (at2 c)
-past2 c = past1 (c .before .before) ∙ pass 2 (from3 (at2 c)) (c .before .rule-b .ensures) (c .if2 .left)
+past2 c = past1 (c .before .before) ∙ pass {t = ruleB (at2 c)} 2 (from3 (at2 c)) refl (cc)
 
 past3 : (c : tie.Else3) → broken (at3 c) ≡ from4 (at3 c)
-past3 c = past2 (c .before .before) ∙ pass 3 (from4 (at3 c)) (c .before .rule-c .ensures) (c .if3 .left)
+past3 c = past2 (c .before .before) ∙ pass {t = ruleC (at3 c)} 3 (from4 (at3 c)) refl (cc)
 
 past4 : (c : tie.Else4) → broken (at4 c) ≡ from5 (at4 c)
-past4 c = past3 (c .before .before) ∙ pass 4 (from5 (at4 c)) (c .before .rule-d .ensures) (c .if4 .left)
+past4 c = past3 (c .before .before) ∙ pass {t = ruleD (at4 c)} 4 (from5 (at4 c)) refl (cc)
 
 past5 : (c : tie.Else5) → broken (at5 c) ≡ from6 (at5 c)
-past5 c = past4 (c .before .before) ∙ pass 5 (from6 (at5 c)) (c .before .rule-e .ensures) (c .if5 .left)
+past5 c = past4 (c .before .before) ∙ pass {t = ruleE (at5 c)} 5 (from6 (at5 c)) refl (cc)
 
 past6 : (c : tie.Else6) → broken (at6 c) ≡ from7 (at6 c)
-past6 c = past5 (c .before .before) ∙ pass 6 (from7 (at6 c)) (c .before .rule-f .ensures) (c .if6 .left)
+past6 c = past5 (c .before .before) ∙ pass {t = ruleF (at6 c)} 6 (from7 (at6 c)) refl (cc)
 
 past7 : (c : tie.Else7) → broken (at7 c) ≡ from8 (at7 c)
-past7 c = past6 (c .before .before) ∙ pass 7 (from8 (at7 c)) (c .before .rule-g .ensures) (c .if7 .left)
+past7 c = past6 (c .before .before) ∙ pass {t = ruleG (at7 c)} 7 (from8 (at7 c)) refl (cc)
 
 past8 : (c : tie.Else8) → broken (at8 c) ≡ 0
-past8 c = past7 (c .before .before) ∙ pass 8 0 (c .before .rule-h .ensures) (c .if8 .left)
+past8 c = past7 (c .before .before) ∙ pass {t = ruleH (at8 c)} 8 0 refl (cc)
 
 big1 : (c : tie.Else1) → Sized (at1 c)
-big1 c = sized _ (yes (c .before .rule-a .ensures) (c .if1 .left))
+big1 c = sized _ (yes {t = ruleA (at1 c)} refl (cc))
 
 big2 : (c : tie.Else2) → Sized (at2 c)
 big2 c = big1 (c .before .before)
@@ -110,28 +110,28 @@ big7 c = big6 (c .before .before)
 
 returns : tie.Need-returns
 unfolding broken
-returns c = sym (stop 1 (from2 (c .before .before .before .args .words .now)) (c .before .rule-a .ensures) (c .if1 .taken))
+returns c = sym (stop {t = ruleA (c .before .before .before .args .words .now)} 1 (from2 (c .before .before .before .args .words .now)) refl (cc))
 
 returns-2 : tie.Need-returns-2
-returns-2 c = sym (past1 (c .before .before) ∙ stop 2 (from3 (at1 (c .before .before))) (c .before .rule-b .ensures) (c .if2 .taken))
+returns-2 c = sym (past1 (c .before .before) ∙ stop {t = ruleB (at1 (c .before .before))} 2 (from3 (at1 (c .before .before))) refl (cc))
 
 returns-3 : tie.Need-returns-3
-returns-3 c = sym (past2 (c .before .before) ∙ stop 3 (from4 (at2 (c .before .before))) (c .before .rule-c .ensures) (c .if3 .taken))
+returns-3 c = sym (past2 (c .before .before) ∙ stop {t = ruleC (at2 (c .before .before))} 3 (from4 (at2 (c .before .before))) refl (cc))
 
 returns-4 : tie.Need-returns-4
-returns-4 c = sym (past3 (c .before .before) ∙ stop 4 (from5 (at3 (c .before .before))) (c .before .rule-d .ensures) (c .if4 .taken))
+returns-4 c = sym (past3 (c .before .before) ∙ stop {t = ruleD (at3 (c .before .before))} 4 (from5 (at3 (c .before .before))) refl (cc))
 
 returns-5 : tie.Need-returns-5
-returns-5 c = sym (past4 (c .before .before) ∙ stop 5 (from6 (at4 (c .before .before))) (c .before .rule-e .ensures) (c .if5 .taken))
+returns-5 c = sym (past4 (c .before .before) ∙ stop {t = ruleE (at4 (c .before .before))} 5 (from6 (at4 (c .before .before))) refl (cc))
 
 returns-6 : tie.Need-returns-6
-returns-6 c = sym (past5 (c .before .before) ∙ stop 6 (from7 (at5 (c .before .before))) (c .before .rule-f .ensures) (c .if6 .taken))
+returns-6 c = sym (past5 (c .before .before) ∙ stop {t = ruleF (at5 (c .before .before))} 6 (from7 (at5 (c .before .before))) refl (cc))
 
 returns-7 : tie.Need-returns-7
-returns-7 c = sym (past6 (c .before .before) ∙ stop 7 (from8 (at6 (c .before .before))) (c .before .rule-g .ensures) (c .if7 .taken))
+returns-7 c = sym (past6 (c .before .before) ∙ stop {t = ruleG (at6 (c .before .before))} 7 (from8 (at6 (c .before .before))) refl (cc))
 
 returns-8 : tie.Need-returns-8
-returns-8 c = sym (past7 (c .before .before) ∙ stop 8 0 (c .before .rule-h .ensures) (c .if8 .taken))
+returns-8 c = sym (past7 (c .before .before) ∙ stop {t = ruleH (at7 (c .before .before))} 8 0 refl (cc))
 
 returns-9 : tie.Need-returns-9
 returns-9 c = sym (past8 c)

@@ -1,4 +1,5 @@
 -- The page's entry, its list and its slot.
+use mathlib.Core.Path.{sym, _∙_}
 use borrow.Author.Needs.{needs}
 use native.Mathlib.Omega.{arith}
 use Rattle.sound.proofs.Entry.{ready}
@@ -18,16 +19,16 @@ cell-requires c κs = let k = c .before in let f = k .before .before in let s = 
     (omega arith, seen-room (s .args .words .now) (s .args .page) (s .pre .0) (s .pre .1) (f .find .ensures) (k .f .given .1))
 
 cell-requires-2 : tie.Need-cell-requires-2
-cell-requires-2 c κs = let k = c .before .before .before in let f = k .before .before in let s = f .before .before in
+cell-requires-2 c κs = let k = c .before .before .before .before in let f = k .before .before in let s = f .before .before in
     (omega arith, seen-room (s .args .words .now) (s .args .page) (s .pre .0) (s .pre .1) (f .find .ensures) (k .f .given .1))
 
 returns-2 : tie.Need-returns-2
-returns-2 c = let o = c .before in let l = o .before in let k = l .before .before in let f = k .before .before in let s = f .before .before in
-    seen-held (s .args .words .now) (s .args .page) (s .pre .0) (s .pre .1) (f .find .ensures) (k .f .given .1) (l .cell .ensures) (o .if1 .taken) (c .cell2 .ensures)
+returns-2 c = let o = c .before in let h = o .before in let l = h .before in let k = l .before .before in let f = k .before .before in let s = f .before .before in
+    seen-held (s .args .words .now) (s .args .page) (s .pre .0) (s .pre .1) (f .find .ensures) (k .f .given .1) (l .cell .ensures) (sym (h .is-held .ensures) ∙ o .if1 .taken) (c .cell2 .ensures)
 
 returns-3 : tie.Need-returns-3
-returns-3 c = let l = c .before in let k = l .before .before in let f = k .before .before in let s = f .before .before in
-    seen-ghost (s .args .words .now) (s .args .page) (s .pre .0) (s .pre .1) (f .find .ensures) (k .f .given .1) (l .cell .ensures) (c .if1 .left)
+returns-3 c = let h = c .before in let l = h .before in let k = l .before .before in let f = k .before .before in let s = f .before .before in
+    seen-ghost (s .args .words .now) (s .args .page) (s .pre .0) (s .pre .1) (f .find .ensures) (k .f .given .1) (l .cell .ensures) (sym (h .is-held .ensures) ∙ c .if1 .left)
 
 pub seen-spec : {M : Type 1} → statement M
 seen-spec =
@@ -38,6 +39,7 @@ seen-spec =
     (λ c. search needs)  -- enum-told
     returns
     cell-requires
+    (λ c κs. search needs)  -- is-held-requires
     cell-requires-2
     returns-2
     returns-3)

@@ -1,9 +1,9 @@
 -- The refusals in their order, and the pages of the list.
 use borrow.Author.Needs.{needs}
 use native.Mathlib.Omega.{arith}
-use Rattle.meaning.proofs.Tests.{yes}
+use Rattle.invariants.proofs.Tests.{yes}
 use Rattle.sound.proofs.Entry.{is-sound, not-sound, ready}
-use Rattle.meaning.proofs.Numbered.{list-fits}
+use Rattle.invariants.proofs.Numbered.{list-fits}
 use Rattle.form_look_report.proofs.Reported.{report-unsound, report-unlisted, report-short, report-gives}
 use Rattle.form_look_report.proofs.reporting.report.Statement.{statement}
 use Rattle.form_look_report.proofs.reporting.report.Tie as tie

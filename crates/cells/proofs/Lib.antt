@@ -1,0 +1,5 @@
+pub mod Stores
+pub mod Composed
+pub mod Single
+pub mod Bounds
+pub mod Ways

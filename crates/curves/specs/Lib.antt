@@ -1,0 +1,2 @@
+pub mod PageList
+pub mod Curve

@@ -1,0 +1,4 @@
+pub mod Leaving
+pub mod Linking
+pub mod Walks
+pub mod Copying
