@@ -1,4 +1,6 @@
 // ARC: list 1 is T1, list 2 T2, list 3 B1, list 4 B2 (3 and 4 ghosts); word 6 is the target p.
+#![tactic(auto)]
+
 ghost use Rattle.std.specs.Prelude.{◌≡◌, ◌+◌, ◌-◌, ◌<◌, ◌≤◌, min};
 ghost use Rattle.meaning.specs.Arc.{step_of, grown, shrunk, arc_b1, arc_b2, arc_full_row, arc_under, arc};
 ghost use Rattle.invariants.specs.Places.{Ready, Turns, Says, Any};

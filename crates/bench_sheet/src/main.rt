@@ -1,4 +1,6 @@
 // The bench sheet of document 01: each row goes through the public calls, and what they answer is written.
+#![tactic(auto)]
+
 mod calls;
 mod writing;
 

@@ -1,4 +1,6 @@
 // Single words of a directory, read and written: the one reader that the audit and the lists share, and the only stores of a request.
+#![tactic(auto)]
+
 ghost use Rattle.std.specs.Prelude.{◌≡◌, ◌+◌, ◌*◌, ◌<◌, ◌≤◌, length, get_or, set};
 ghost use Rattle.meaning.specs.Layout.{cell_at, head_at, tail_at};
 ghost use Rattle.meaning.specs.Mem.{with_slot, with_mark, with_word6};

@@ -1,4 +1,6 @@
 // CLOCK: its pages are on list 1 by their words, in no order; each entry's slot is its own number; word 6 is the hand.
+#![tactic(auto)]
+
 ghost use Rattle.std.specs.Prelude.{◌<◌};
 ghost use Rattle.meaning.specs.Clock.{advance, clock_load, clock};
 ghost use Rattle.invariants.specs.Places.{Ready, Turns, Says};

@@ -1,4 +1,6 @@
 // The LRU curve: one walk over a trace gives the hits at every capacity from 1 to the largest.
+#![tactic(auto)]
+
 ghost use Rattle.std.specs.Prelude.{◌≡◌, false, ◌+◌, ◌≤◌, ◌<◌, length, replicate};
 ghost use Rattle.meaning.specs.Base.{series, pad};
 ghost use Rattle.meaning.specs.Neighbours.{NONE, has};

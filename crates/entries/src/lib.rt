@@ -1,4 +1,6 @@
 // Entries that are filled and made free, and what is read off all of them.
+#![tactic(auto)]
+
 ghost use Rattle.std.specs.Prelude.{◌≡◌, ◌+◌, ◌*◌, ◌<◌, ◌≤◌, length};
 ghost use Rattle.meaning.specs.Mem.{blanked, seat, filled, fill, fill_seat, enter, enter_seat, clear, lowest, held, taken, free_slot};
 ghost use Rattle.invariants.specs.Places.{Ready, Turns, Says, Any};

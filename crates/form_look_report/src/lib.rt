@@ -1,4 +1,6 @@
 // The calls on a directory that ask for no page: form, and the length that it asks; look; report.
+#![tactic(auto)]
+
 mod forming;
 mod looking;
 mod reporting;

@@ -1,4 +1,6 @@
 // A fresh directory, over whatever was there.
+#![tactic(auto)]
+
 ghost use Rattle.std.specs.Prelude.{◌≡◌, ◌≤◌, length};
 ghost use Rattle.fresh.specs.Written.{headed, blank, Wiped, Fits, fresh_words};
 

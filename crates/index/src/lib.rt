@@ -1,4 +1,6 @@
 // The page index: buckets, and the chain of each.
+#![tactic(auto)]
+
 ghost use Rattle.std.specs.Prelude.{◌≡◌, ◌<◌, length};
 ghost use Rattle.meaning.specs.Mem.{hang, unhang};
 ghost use Rattle.invariants.specs.Places.{Ready, Turns, Says, Any};
@@ -10,7 +12,7 @@ use cells::{cell, link_at, put, put_cell, word};
 use settings::{BITS, CHAIN, ENTRIES, NONE, PAGE, bucket_of};
 
 // An entry, and the one in front of it on its chain, or NONE.
-#[derive(Drop)]
+#[derive(Clone, Copy)]
 pub enum Found {
     At(u32, u32),
     Nothing,

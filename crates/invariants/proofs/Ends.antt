@@ -24,9 +24,11 @@ unfolding has remove ahead Nodup
 last_out x [] d n = simp (eqb_same x)
 last_out x (y ∷ K) d n = split NONE y
     (λ z t. no_true (sym n ∙ simp t))
-    (λ z t. simp t (split (ahead y K NONE) x
-    (λ w s. no_true (sym d.0 ∙ ap (has (y ∷ K)) (sym w) ∙ last_in_lem y K (sym (simp t) ∙ n)))
-    (λ w s. simp s (ap (λ (r : List ℕ). x ∷ r) (last_out y K d.1 (sym (simp t) ∙ n))))))
+    (λ z t.
+        let e : ahead x (y ∷ K) NONE ≡ ahead y K NONE = simp t in
+        ap (λ (j : ℕ). remove j (x ∷ (y ∷ K))) e ∙ split (ahead y K NONE) x
+        (λ w s. no_true (sym d.0 ∙ ap (has (y ∷ K)) (sym w) ∙ last_in_lem y K (sym (simp t) ∙ n)))
+        (λ w s. simp s (ap (λ (r : List ℕ). x ∷ r) (last_out y K d.1 (sym (simp t) ∙ n)))))
 
 -- the back of a list is on it, and without it the list is its front
 pub back_out_lem : (L : List ℕ) (n : ℕ) → length L ≡ suc n → Nodup L → has L NONE ≡ false → (has L (before L NONE) ≡ true) × (remove (before L NONE) L ≡ take n L)
@@ -35,7 +37,8 @@ back_out_lem [] n l d h = absurd (omega arith)
 back_out_lem (x ∷ L) n l d h = split NONE x
     (λ z t. no_true (sym h ∙ simp t))
     (λ z t. let i : length L ≡ n = omega arith in let g = sym (simp t) ∙ h in
-    simp t (last_in_lem x L g, last_out x L d g ∙ ap (λ (j : ℕ). take j (x ∷ L)) i))
+    let e : before (x ∷ L) NONE ≡ ahead x L NONE = simp t in
+    (ap (has (x ∷ L)) e ∙ last_in_lem x L g, ap (λ (j : ℕ). remove j (x ∷ L)) e ∙ last_out x L d g ∙ ap (λ (j : ℕ). take j (x ∷ L)) i))
 
 -- what is on a list with one more at its end
 pub end_has : (L : List ℕ) (e i : ℕ) → has (L ++ (e ∷ [])) i ≡ true → (i ≡ e → ⊥) → has L i ≡ true

@@ -1,4 +1,6 @@
 // The four lists: heads, tails, and the previous and next of each entry.
+#![tactic(auto)]
+
 ghost use Rattle.std.specs.Prelude.{◌≡◌, ◌+◌, ◌*◌, ◌<◌, ◌≤◌, length, get_or};
 ghost use Rattle.meaning.specs.Layout.{head_at, tail_at, next_col, previous_col};
 ghost use Rattle.meaning.specs.Mem.{off, push, to_front, move_to, size, back};

@@ -1,4 +1,6 @@
 // LRU, on list 1.
+#![tactic(auto)]
+
 ghost use Rattle.std.specs.Prelude.{◌<◌};
 ghost use Rattle.meaning.specs.Lru.{lru};
 ghost use Rattle.invariants.specs.Places.{Ready};

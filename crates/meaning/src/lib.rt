@@ -1,8 +1,9 @@
 // What the public calls answer: an enum a call, and one struct for every refusal, with those that are always the same by name.
 // No function: what each answer means stands in specs/Answers.antt.
+#![tactic(auto)]
 
 // A refusal: its number, and what it carries: the line for 10, 0 for any other.
-#[derive(Drop)]
+#[derive(Clone, Copy)]
 pub struct Refusal {
     pub number: u32,
     pub carried: u32,
@@ -51,21 +52,21 @@ pub const NO_SUCH_LIST: Refusal = Refusal {
 };
 
 // The answer of `form`.
-#[derive(Drop)]
+#[derive(Clone, Copy)]
 pub enum Formed {
     Done,
     Refused(Refusal),
 }
 
 // The answer of `words_for`: the length that `form` asks.
-#[derive(Drop)]
+#[derive(Clone, Copy)]
 pub enum WordsFor {
     Count { words: u32 },
     Refused(Refusal),
 }
 
 // The answer of `request`: the slot, the page put out, and the marks that the sweep cleared.
-#[derive(Drop)]
+#[derive(Clone, Copy)]
 pub enum Answer {
     Hit { slot: u32, cleared: u32 },
     Loaded { slot: u32, cleared: u32 },
@@ -74,14 +75,14 @@ pub enum Answer {
 }
 
 // The answer of `slot_for`: the slot alone.
-#[derive(Drop)]
+#[derive(Clone, Copy)]
 pub enum SlotFor {
     At { slot: u32 },
     Refused(Refusal),
 }
 
 // The answer of `look`.
-#[derive(Drop)]
+#[derive(Clone, Copy)]
 pub enum Looked {
     Absent,
     Held { slot: u32 },
@@ -90,28 +91,28 @@ pub enum Looked {
 }
 
 // The answer of `report`: how many pages stand in the result.
-#[derive(Drop)]
+#[derive(Clone, Copy)]
 pub enum Reported {
     Count { pages: u32 },
     Refused(Refusal),
 }
 
 // The answer of `replay`.
-#[derive(Drop)]
+#[derive(Clone, Copy)]
 pub enum Replayed {
     Counts { hits: u32, loads: u32, swaps: u32 },
     Refused(Refusal),
 }
 
 // The answer of `curve`.
-#[derive(Drop)]
+#[derive(Clone, Copy)]
 pub enum Curved {
     Done,
     Refused(Refusal),
 }
 
 // The answer of `read`: the four settings and the number of pages.
-#[derive(Drop)]
+#[derive(Clone, Copy)]
 pub enum ReadText {
     Accepted {
         policy: u32,
@@ -124,7 +125,7 @@ pub enum ReadText {
 }
 
 // The answer of `write`: the length of the text.
-#[derive(Drop)]
+#[derive(Clone, Copy)]
 pub enum Written {
     Length { bytes: u32 },
     Refused(Refusal),

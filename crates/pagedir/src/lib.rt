@@ -1,4 +1,6 @@
 // The public calls with a C interface: each returns the refusal number, 0 for none, and a refusal leaves every lent word as it was.
+#![tactic(auto)]
+
 ghost use Rattle.std.specs.Prelude.{◌≡◌, ◌+◌, ◌*◌};
 ghost use Rattle.meaning.specs.Base.{one_if};
 ghost use Rattle.meaning.specs.Layout.{four};

@@ -1,4 +1,6 @@
 // What the rules read of an entry, a list and a bucket.
+#![tactic(auto)]
+
 ghost use Rattle.std.specs.Prelude.{◌≡◌, ◌^◌, ◌≤◌, ◌<◌, get_or};
 ghost use Rattle.meaning.specs.Layout.{bucket_at};
 ghost use Rattle.meaning.specs.Mem.{E, bits_in};

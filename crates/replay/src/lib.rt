@@ -1,4 +1,6 @@
 // Replay: the requests of a trace in turn, with true counts.
+#![tactic(auto)]
+
 ghost use Rattle.std.specs.Prelude.{◌≡◌, true, false, ◌+◌, ◌≤◌, ◌<◌, length};
 ghost use Rattle.meaning.specs.Neighbours.{NONE, has};
 ghost use Rattle.meaning.specs.Rules.{sound};
@@ -12,7 +14,7 @@ use settings::NONE;
 use traces::find;
 
 // How many requests so far were hits, loads and swaps.
-#[derive(Drop)]
+#[derive(Clone, Copy)]
 struct Tally {
     hits: u32,
     loads: u32,

@@ -1,4 +1,6 @@
 // The replay program: a trace text on standard input, five lines on standard output.
+#![tactic(auto)]
+
 ghost use Rattle.std.specs.Prelude.{◌≡◌, ◌≤◌, length, take};
 ghost use Rattle.meaning.specs.Layout.{four};
 ghost use Rattle.meaning.specs.Answers.{refusal_says};
@@ -8,7 +10,7 @@ ghost use Rattle.replay_program.specs.Numbers.{five_of};
 use meaning::{Formed, ReadText, Refusal, Replayed, WordsFor};
 
 // The numbers of the five lines.
-#[derive(Drop)]
+#[derive(Clone, Copy)]
 struct Five {
     refused: u32,
     line: u32,

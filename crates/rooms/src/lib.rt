@@ -1,4 +1,6 @@
 // What the policies share: room for a page, and how a page comes in.
+#![tactic(auto)]
+
 ghost use Rattle.std.specs.Prelude.{◌≡◌, ◌<◌, ◌≤◌};
 ghost use Rattle.meaning.specs.Mem.{full};
 ghost use Rattle.meaning.specs.Room.{as_it_is};
@@ -15,7 +17,7 @@ use meaning::Answer;
 use settings::{CAPACITY, PAGE, SLOT};
 
 // The slot that is free now, and the page put out of it, or NONE.
-#[derive(Drop)]
+#[derive(Clone, Copy)]
 pub struct Freed {
     pub slot: u32,
     pub out: u32,

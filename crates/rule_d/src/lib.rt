@@ -1,4 +1,6 @@
 // Rule d: the lists.
+#![tactic(auto)]
+
 ghost use Rattle.std.specs.Prelude.{◌≡◌, ◌+◌, ◌≤◌, ◌<◌};
 ghost use Rattle.meaning.specs.Base.{every};
 ghost use Rattle.meaning.specs.Mem.{E};
@@ -71,7 +73,7 @@ fn end_none(words: &[u32], h: u32) -> bool
 }
 
 // What rule d asks of every head and tail, of every entry of CLOCK or of every list.
-#[derive(Drop)]
+#[derive(Clone, Copy)]
 enum Part {
     End,
     Clock,

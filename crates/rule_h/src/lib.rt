@@ -1,4 +1,6 @@
 // Rule h: the sizes of the lists.
+#![tactic(auto)]
+
 ghost use Rattle.std.specs.Prelude.{◌≡◌};
 ghost use Rattle.meaning.specs.Rules.{rule_h};
 ghost use Rattle.readers.specs.Sized.{Sized};

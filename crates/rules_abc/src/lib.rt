@@ -1,4 +1,6 @@
 // Rules a, b and c: the header, and each entry by itself.
+#![tactic(auto)]
+
 ghost use Rattle.std.specs.Prelude.{◌≡◌, ◌<◌};
 ghost use Rattle.meaning.specs.Mem.{E};
 ghost use Rattle.meaning.specs.Rules.{rule_a, rule_b, is_free, is_taken, entry_right, rule_c};

@@ -1,4 +1,6 @@
 // Rules e, f and g: pages, slots and chains.
+#![tactic(auto)]
+
 ghost use Rattle.std.specs.Prelude.{◌≡◌, true, ◌+◌, ◌^◌, ◌<◌};
 ghost use Rattle.meaning.specs.Base.{every, if◌then◌else◌};
 ghost use Rattle.meaning.specs.Mem.{E, bits_in};
@@ -114,7 +116,7 @@ fn chained(words: &[u32], i: u32) -> bool
 }
 
 // What rules e, f and g ask of every entry or of every bucket.
-#[derive(Drop)]
+#[derive(Clone, Copy)]
 enum Part {
     Page,
     Slot(u32),

@@ -1,4 +1,6 @@
 // Segmented LRU: list 1 is probation P, list 2 protected Q; first is the most that Q holds.
+#![tactic(auto)]
+
 ghost use Rattle.std.specs.Prelude.{◌<◌};
 ghost use Rattle.meaning.specs.Segmented.{spill, segmented};
 ghost use Rattle.invariants.specs.Places.{Ready, Turns};

@@ -1,4 +1,6 @@
 // What document 01 lays down before any directory: the table of policies, what is derived from settings, the bucket of a page, and the names of the words.
+#![tactic(auto)]
+
 ghost use Rattle.std.specs.Prelude.{not, ◌≡◌, ◌^◌, ◌≤◌, ◌<◌};
 ghost use Rattle.meaning.specs.Layout.{lists_of, is_list, is_held, is_clock, is_split, entries_of, bits_of, length_for, bucket_of, least_capacity, first_fits, second_fits, settings_refusal, mark_limit};
 ghost use Rattle.meaning.specs.Rules.{word6_fits, arc_sizes, sizes_right};

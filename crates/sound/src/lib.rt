@@ -1,4 +1,6 @@
 // The audit: which of the rules a to h of a sound directory is broken first.
+#![tactic(auto)]
+
 ghost use Rattle.std.specs.Prelude.{◌≡◌};
 ghost use Rattle.meaning.specs.Rules.{broken};
 ghost use Rattle.meaning.specs.Calls.{audited};

@@ -1,11 +1,13 @@
 // Lines of text: a key, a decimal from 0 to 4,294,967,295 and byte 10; read and written.
+#![tactic(auto)]
+
 ghost use Rattle.std.specs.Prelude.{◌≡◌, ◌+◌, ◌≤◌, length, drop};
 ghost use Rattle.std.proofs.lemmas.List.Edits.{sets};
 ghost use Rattle.meaning.specs.Text.{scan, number, line as Text·line, decimal, line_of};
 ghost use Rattle.text_lines.specs.Lines.{took_of};
 
 // What reading a line finds: its value and where the next line starts.
-#[derive(Drop)]
+#[derive(Clone, Copy)]
 pub enum Line {
     Value(u32, usize),
     Wrong,

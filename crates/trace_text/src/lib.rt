@@ -1,4 +1,6 @@
 // The trace text: a reader and a writer.
+#![tactic(auto)]
+
 ghost use Rattle.std.specs.Prelude.{◌≡◌, ◌+◌, ◌≤◌, length, drop};
 ghost use Rattle.std.proofs.lemmas.List.Edits.{sets};
 ghost use Rattle.meaning.specs.Text.{line as Text·line, head, header as Text·header, first_wrong, pages_in, page_key, line_of, page_lines, text_of};
@@ -9,7 +11,7 @@ use meaning::{ReadText, Refusal, TOO_LONG, TOO_SHORT, Written};
 use text_lines::{Line, digits, line_at, put_line};
 
 // What reading the first five lines finds, or the number of the first wrong one.
-#[derive(Drop)]
+#[derive(Clone, Copy)]
 enum Head {
     Right {
         policy: u32,

@@ -1,4 +1,6 @@
 // Traces: where a page first stands.
+#![tactic(auto)]
+
 ghost use Rattle.std.specs.Prelude.{◌≡◌};
 ghost use Rattle.traces.specs.Depth.{depth};
 

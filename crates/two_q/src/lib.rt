@@ -1,4 +1,6 @@
 // 2Q: list 1 is A1in, list 2 Am, list 3 A1out (ghosts); first is Kin, second is Kout.
+#![tactic(auto)]
+
 ghost use Rattle.std.specs.Prelude.{◌<◌};
 ghost use Rattle.meaning.specs.TwoQ.{trimmed, make_room, two_q};
 ghost use Rattle.invariants.specs.Places.{Ready, Turns};
