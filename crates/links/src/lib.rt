@@ -119,9 +119,9 @@ pub fn size(words: &[u32], j: u32) -> u32
 pub fn write_pages(words: &[u32], j: u32, res: &mut [u32]) -> u32
     requires ready { Ready words.now Any }
     requires le_j { (1 ≤ j) × (j ≤ 4) }
-    requires says { Says words.now (Shorter j (length res.old)) }
-    ensures says_2 { Says words.now (GivesOf size j result) }
-    ensures says_3 { Says words.now (Copied j res.old res.new) }
+    requires fits { Says words.now (Shorter j (length res.old)) }
+    ensures counted { Says words.now (GivesOf size j result) }
+    ensures copied { Says words.now (Copied j res.old res.new) }
 {
     let n = word(words, ENTRIES);
     let mut i = front(words, j);

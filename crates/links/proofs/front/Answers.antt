@@ -1,0 +1,4 @@
+use Rattle.links.proofs.front.Goals as goal
+
+pub returns : goal.returns
+returns c = cc

@@ -1,0 +1,4 @@
+use Rattle.links.proofs.put_links.Goals as goal
+
+pub returns : goal.returns
+returns c = cc
