@@ -4,7 +4,7 @@ use mathlib.Core.Logic.{◌↔◌}
 use mathlib.Core.Path.{◌≡◌, refl, sym, ap, ◌∙◌, subst}
 use mathlib.Core.List.{List}
 use lib.ListN.{length, take, drop}
-use lib.Seq.{sets, take_at, take-append_seam}
+use lib.Seq.{sets, take-append_seam}
 use native.Mathlib.Omega.{arith}
 use Rattle.meaning.specs.Layout.{four}
 use Rattle.meaning.specs.Calls.{Said, refused, gave, refuse, over}

@@ -1,5 +1,4 @@
 use mathlib.Core.Path.{◌≡◌, refl, sym, ap, ◌∙◌}
-use mathlib.Core.Logic.{⊎_elim}
 use mathlib.Core.Bool.{Bool, true, not}
 use mathlib.Core.List.{List}
 use Prim.Native.Nat.{ℕ, zero-le}
@@ -12,9 +11,8 @@ use Rattle.meaning.specs.Mem.{word}
 use Rattle.meaning.specs.Rules.{used, holds}
 use Rattle.invariants.proofs.Tests.{fails, clash, every_at, every_more, imp_no, imp_yes, imp_skip}
 use Rattle.rules_efg.proofs.unlike.Goals as goal
-
-abbrev other : List ℕ → Bool → ℕ → ℕ → ℕ → Bool
-other ws ghosts f i h = (if ghosts then used ws h else holds ws h) ⇒ not (eqb (word ws (cell_at h f)) (word ws (cell_at i f)))
+use Rattle.rules_efg.proofs.unlike.Goals.{then-stands+else-cell-v, else-stands}
+use Rattle.rules_efg.proofs.unlike.Invariants.{other}
 
 pub returns-then-cell-v : goal.returns-then-cell-v
 returns-then-cell-v c =
@@ -29,11 +27,10 @@ loop-h-preserved c =
     let o = other a.words.now a.ghosts a.f a.i in (
       omega arith,
       every_more at.h o at.invariant.1
-          (⊎_elim
-          (λ w. imp_yes (sym c.stands.ensures ∙ w.0.taken)
-          (ne_eqb _ _ (λ q. w.2.left (w.1.ensures ∙ q ∙ sym c.cell-v.ensures))))
-          (λ w. imp_skip _ (sym c.stands.ensures ∙ w.left))
-          c.if-stands.branch),
+          (elim c.if-stands.branch [
+            | then-stands+else-cell-v w ↦ imp_yes (sym c.stands.ensures ∙ w.if-stands.true) (ne_eqb _ _ (λ q. w.if-cell-v.false (w.cell.ensures ∙ q ∙ sym c.cell-v.ensures)))
+            | else-stands w ↦ imp_skip _ (sym c.stands.ensures ∙ w.if-stands.false)
+          ]),
     )
 
 pub returns : goal.returns

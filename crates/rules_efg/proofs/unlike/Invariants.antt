@@ -1,8 +1,16 @@
 use mathlib.Core.Path.{◌≡◌}
-use mathlib.Core.Bool.{true}
-use Prim.Native.Nat.{◌-◌, ◌≤◌}
-use Rattle.meaning.specs.Base.{every}
+use mathlib.Core.Bool.{Bool, true, not}
+use Prim.Native.Nat.{ℕ, ◌-◌, ◌≤◌}
+use Rattle.meaning.specs.Base.{every, if◌then◌else◌, ◌⇒◌}
+use Rattle.meaning.specs.Layout.{cell_at}
+use Rattle.meaning.specs.Mem.{word}
+use Rattle.meaning.specs.Rules.{used, holds}
+use lib.Dec.{eqb}
+use mathlib.Core.List.{List}
 use Rattle.rules_efg.proofs.unlike.Given as goal
+
+abbrev pub other : List ℕ → Bool → ℕ → ℕ → ℕ → Bool
+other ws ghosts f i h = (if ghosts then used ws h else holds ws h) ⇒ not (eqb (word ws (cell_at h f)) (word ws (cell_at i f)))
 
 abbrev pub invariant-loop-h : goal.invariant-loop-h
 invariant-loop-h l = (l.h ≤ l.i) × (every l.h (other l.words l.ghosts l.f l.i) ≡ true)

@@ -16,7 +16,7 @@ pub loop-i-preserved : goal.loop-i-preserved
 loop-i-preserved c =
     let a = c.args in let l = c.loop-i in
     let p = pages_put l.out l.at a.trace.now l.i c.loop-i-test.true c.put_page-at.ensures in
-    (c.put_page-at.auto.0 ∙ l.invariant.0, l.invariant.1 ∙ p.0, p.1 ∙ l.invariant.2)
+    (c.put_page-at.auto.out ∙ l.invariant.0, l.invariant.1 ∙ p.0, p.1 ∙ l.invariant.2)
 
 pub shape_of-out : goal.shape_of-out
 shape_of-out c = c.loop-i.invariant.0
