@@ -1,12 +1,12 @@
 use mathlib.Core.Bool.{true, false}
 use mathlib.Core.Path.{sym, ◌∙◌}
-use mathlib.Core.Logic.{⊎_elim}
 use Rattle.meaning.specs.Base.{one_if}
 use Rattle.cells.proofs.Bounds.{entry_room, few_le}
 use Rattle.entries.proofs.Scans.{tally_start, tally_next, tally_over}
 use borrow.Author.Rules.{rules}
 use native.Mathlib.Omega.{arith}
 use Rattle.entries.proofs.held.Goals as goal
+use Rattle.entries.proofs.held.Goals.{then-is_held, else-is_held}
 
 pub loop-i-init : goal.loop-i-init
 loop-i-init c = (search (tally_start, rules), omega arith, omega arith)
@@ -22,7 +22,10 @@ unfolding one_if
 loop-i-preserved c =
     let b = c.is_held.ensures in
     let next = tally_next c.loop-i.invariant.0 c.word-n.ensures (omega arith) c.cell-j.ensures in
-    ⊎_elim (λ w. (next true (sym w.0.taken ∙ b) (omega arith), omega arith, omega arith)) (λ w. (next false (sym w.0.left ∙ b) (omega arith), omega arith, omega arith)) c.if-is_held.branch
+    elim c.if-is_held.branch [
+      | then-is_held w ↦ (next true (sym w.if-is_held.true ∙ b) (omega arith), omega arith, omega arith)
+      | else-is_held w ↦ (next false (sym w.if-is_held.false ∙ b) (omega arith), omega arith, omega arith)
+    ]
 
 pub returns : goal.returns
 returns c = record { says = search (tally_over, rules); upper_bound = omega (arith, few_le) }
