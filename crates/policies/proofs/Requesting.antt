@@ -7,11 +7,10 @@ use mathlib.Core.Logic.{⊎_elim}
 use native.Mathlib.Omega.{arith}
 use lib.Dec.{eqb}
 use lib.ListN.{length}
-use types.Run.{OneOf}
-use denote.Enum.Declared.{tag_of}
 use borrow.Author.Tests.{eq-eqb, ne_eqb}
 use Rattle.meaning.specs.declared.Answer.{Answer}
 use Rattle.meaning.specs.declared.Answer.TheVariants.{Hit, Loaded, Swapped, Refused}
+use Rattle.meaning.specs.declared.Refusal.{Refusal}
 use Rattle.meaning.specs.declared.SlotFor.{SlotFor}
 use Rattle.meaning.specs.Neighbours.{NONE}
 use Rattle.meaning.specs.Mem.{Mem, decode, capacity_of, first_of, policy_in, policy_of, second_of}
@@ -27,7 +26,6 @@ use Rattle.meaning.specs.Calls.{plain, refuse, audited, answered, on_page, reque
 use Rattle.meaning.specs.Answers.{request_says, slot_says}
 use Rattle.invariants.specs.Places.{top, Ready}
 use Rattle.invariants.specs.Assumed.{Lru, Clock, Segmented, TwoQ, Arc}
-use Rattle.meaning.specs.contracts.Answer.{the_type}
 use Rattle.meaning.proofs.Injective.{as_struct}
 use Rattle.invariants.proofs.Trip.{repr_words}
 use Rattle.theorems.proofs.Whole.{lru_whole, clock_whole, segmented_whole, two_q_whole, arc_whole, request_whole}
@@ -167,19 +165,16 @@ request_is ws p s hp = simp (s, ne_eqb p NONE (λ z. omega (arith, z)))
 
 -- ── The slot ──
 
-none : (x a b c : ℕ) → (x ≡ a → ⊥) → (x ≡ b → ⊥) → (x ≡ c → ⊥) → OneOf (a ∷ b ∷ c ∷ []) x → ⊥
-none x a b c p q r = ⊎_elim p (⊎_elim q r)
-
 -- an answer that is none of the others is a refusal
-pub refuses : (a : Answer) → OneOf (1 ∷ 2 ∷ 3 ∷ []) (tag_of the_type a) → OneOf (0 ∷ 2 ∷ 3 ∷ []) (tag_of the_type a) → OneOf (0 ∷ 1 ∷ 3 ∷ []) (tag_of the_type a) → Refuses a
-refuses (Hit s c) x y z = absurd (none 0 1 2 3 (omega arith) (omega arith) (omega arith) x)
-refuses (Loaded s c) x y z = absurd (none 1 0 2 3 (omega arith) (omega arith) (omega arith) y)
-refuses (Swapped s o c) x y z = absurd (none 2 0 1 3 (omega arith) (omega arith) (omega arith) z)
+pub refuses : (a : Answer) → ((s n : ℕ) → a ≡ Hit s n → ⊥) → ((s n : ℕ) → a ≡ Loaded s n → ⊥) → ((s o n : ℕ) → a ≡ Swapped s o n → ⊥) → Refuses a
+refuses (Hit s n) x y z = absurd (x s n refl)
+refuses (Loaded s n) x y z = absurd (y s n refl)
+refuses (Swapped s o n) x y z = absurd (z s o n refl)
 refuses (Refused r) x y z = record { refusal = r; is = refl }
 
 -- so a refusal is none of the others
-pub never_given : (a : Answer) → Refuses a → OneOf (0 ∷ 1 ∷ 2 ∷ []) (tag_of the_type a) → ⊥
-never_given a R x = none 3 0 1 2 (omega arith) (omega arith) (omega arith) (subst (λ (y : Answer). OneOf (0 ∷ 1 ∷ 2 ∷ []) (tag_of the_type y)) R.is x)
+pub never_given : (a : Answer) → Refuses a → ((r : Refusal) → a ≡ Refused r → ⊥) → ⊥
+never_given a R x = x R.refusal R.is
 
 -- the slot of the request's answer is the call's
 pub slot_given : {ws ws' : List ℕ} {p : ℕ} {a : Answer} {r : SlotFor} → Requested ws p a ws' → slot_says r ≡ slot_of (request_says a) → SlotGiven ws p r ws'
