@@ -72,7 +72,7 @@ returns c =
     let h = lacks t f.result f.ensures (omega arith) in
     let w : length (take a.largest a.work.now) ≡ a.largest = length-take-le a.largest a.work.now (omega arith) in
     done a.largest t a.res.now a.work.now (omega arith) (omega arith) (omega arith) h (omega arith) (omega arith)
-    (all_pages t (λ k. omega (arith, c.shared_slice_known-1.given k)) h)
+    (all_pages t (λ k. omega (arith, c.type_inv.trace k)) h)
     i.new.res i.new.work
     (i.ensures.0 ∙ ap (λ (k : ℕ). series (hits_of t) k 1) w)
     (i.ensures.1 ∙ ap (λ (k : ℕ). pad NONE k (pages_of k t)) w)
