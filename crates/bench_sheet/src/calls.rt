@@ -1,188 +1,196 @@
 // The public calls, each with its answer written as a line.
-ghost use Rattle.io.specs.Counts.{IsPrefixLen};
+ghost use Rattle.std.specs.Prelude.{◌≤◌, length, IfOk};
 
 use crate::writing::{line, named, number, put, refused};
 use meaning::{Answer, Curved, Formed, Looked, ReadText, Replayed, Reported, WordsFor};
+use std::io;
 
 // Writes the length that `form` asks.
-fn show_length(r: WordsFor) {
+fn show_length(rt: &impl Print, r: WordsFor) -> io::Result<()> {
     match r {
-        WordsFor::Count { words } => number(words),
-        WordsFor::Refused(refusal) => refused(refusal.number),
+        WordsFor::Count { words } => number(rt, words),
+        WordsFor::Refused(refusal) => refused(rt, refusal.number),
     }
 }
 
 // Writes what `form` answered.
-fn show_formed(r: Formed) {
+fn show_formed(rt: &impl Print, r: Formed) -> io::Result<()> {
     match r {
-        Formed::Done => put(b" done"),
-        Formed::Refused(refusal) => refused(refusal.number),
+        Formed::Done => put(rt, " done"),
+        Formed::Refused(refusal) => refused(rt, refusal.number),
     }
 }
 
 // Forms a directory; writes the length asked, and the answer.
-pub(crate) fn form(policy: u32, capacity: u32, first: u32, second: u32, words: &mut [u32]) {
-    put(b"words_for:");
+pub(crate) fn form(
+    rt: &impl Print,
+    policy: u32,
+    capacity: u32,
+    first: u32,
+    second: u32,
+    words: &mut [u32],
+) -> io::Result<()> {
+    put(rt, "words_for:")?;
     let n = policies::words_for(policy, capacity, first, second);
-    show_length(n);
-    put(b"\nform:");
+    show_length(rt, n)?;
+    put(rt, "\nform:")?;
     let r = policies::form(policy, capacity, first, second, words);
-    show_formed(r);
-    put(b"\n");
+    show_formed(rt, r)?;
+    put(rt, "\n")
 }
 
 // Writes how many marks were cleared, where any were.
-fn show_cleared(n: u32) {
+fn show_cleared(rt: &impl Print, n: u32) -> io::Result<()> {
     if n != 0 {
-        named(b" cleared", n);
+        named(rt, " cleared", n)?;
     }
+    Ok(())
 }
 
 // Writes what `request` answered.
-fn show_answer(a: Answer) {
+fn show_answer(rt: &impl Print, a: Answer) -> io::Result<()> {
     match a {
         Answer::Hit { slot, cleared } => {
-            named(b" hit", slot);
-            show_cleared(cleared);
+            named(rt, " hit", slot)?;
+            show_cleared(rt, cleared)
         }
         Answer::Loaded { slot, cleared } => {
-            named(b" loaded", slot);
-            show_cleared(cleared);
+            named(rt, " loaded", slot)?;
+            show_cleared(rt, cleared)
         }
         Answer::Swapped { slot, out, cleared } => {
-            named(b" swapped", slot);
-            named(b" out", out);
-            show_cleared(cleared);
+            named(rt, " swapped", slot)?;
+            named(rt, " out", out)?;
+            show_cleared(rt, cleared)
         }
-        Answer::Refused(refusal) => refused(refusal.number),
+        Answer::Refused(refusal) => refused(rt, refusal.number),
     }
 }
 
 // Asks for a page and writes the answer.
-fn ask(words: &mut [u32], page: u32) {
-    io::print_decimal(1, page as u64);
-    put(b":");
+fn ask(rt: &impl Print, words: &mut [u32], page: u32) -> io::Result<()> {
+    print!(rt; "{page}")?;
+    put(rt, ":")?;
     let a = policies::request(words, page);
-    show_answer(a);
-    put(b"\n");
+    show_answer(rt, a)?;
+    put(rt, "\n")
 }
 
 // Asks for the pages of a trace in turn.
-pub(crate) fn ask_all(words: &mut [u32], trace: &[u32]) {
-    let mut i = 0;
-    while i < trace.len() {
-        ask(words, trace[i]);
-        i += 1;
+pub(crate) fn ask_all(rt: &impl Print, words: &mut [u32], trace: &[u32]) -> io::Result<()> {
+    for page in trace {
+        ask(rt, words, *page)?;
     }
+    Ok(())
 }
 
 // Writes what `look` answered.
-fn show_looked(r: Looked) {
+fn show_looked(rt: &impl Print, r: Looked) -> io::Result<()> {
     match r {
-        Looked::Absent => put(b" absent"),
-        Looked::Held { slot } => named(b" held", slot),
-        Looked::Remembered => put(b" remembered"),
-        Looked::Refused(refusal) => refused(refusal.number),
+        Looked::Absent => put(rt, " absent"),
+        Looked::Held { slot } => named(rt, " held", slot),
+        Looked::Remembered => put(rt, " remembered"),
+        Looked::Refused(refusal) => refused(rt, refusal.number),
     }
 }
 
 // Looks at a page and writes the answer.
-fn look(words: &[u32], page: u32) {
-    named(b"look", page);
-    put(b":");
+fn look(rt: &impl Print, words: &[u32], page: u32) -> io::Result<()> {
+    named(rt, "look", page)?;
+    put(rt, ":")?;
     let r = policies::look(words, page);
-    show_looked(r);
-    put(b"\n");
+    show_looked(rt, r)?;
+    put(rt, "\n")
 }
 
 // Looks at pages in turn.
-pub(crate) fn look_all(words: &[u32], pages: &[u32]) {
-    let mut i = 0;
-    while i < pages.len() {
-        look(words, pages[i]);
-        i += 1;
+pub(crate) fn look_all(rt: &impl Print, words: &[u32], pages: &[u32]) -> io::Result<()> {
+    for page in pages {
+        look(rt, words, *page)?;
     }
+    Ok(())
 }
 
 // Reports a list into a buffer and gives how many pages it has; a refusal is written, and gives none.
-fn reported(words: &[u32], list: u32, res: &mut [u32]) -> usize
-    ensures { IsPrefixLen result res.new }
+fn reported(rt: &impl Print, words: &[u32], list: u32, res: &mut [u32]) -> io::Result<usize>
+    ensures { IfOk result (λ n. n ≤ length res.new) }
 {
     let r = policies::report(words, list, res);
     match r {
-        Reported::Count { pages } => pages as usize,
+        Reported::Count { pages } => Ok(pages as usize),
         Reported::Refused(refusal) => {
-            refused(refusal.number);
-            0
+            refused(rt, refusal.number)?;
+            Ok(0)
         }
     }
 }
 
 // Writes the pages of a list, front first, under its name.
-pub(crate) fn list(name: &[u8], words: &[u32], which: u32) {
+pub(crate) fn list(rt: &impl Print, name: &str, words: &[u32], which: u32) -> io::Result<()> {
     let mut result = [0u32; 8];
-    let n = reported(words, which, &mut result);
-    line(name, &result[..n]);
+    let n = reported(rt, words, which, &mut result)?;
+    line(rt, name, &result[..n])
 }
 
 // Writes word 6, the hand or the target, under its name; nothing of words too few to have one.
-pub(crate) fn word_six(name: &[u8], words: &[u32]) {
+pub(crate) fn word_six(rt: &impl Print, name: &str, words: &[u32]) -> io::Result<()> {
     if 6 < words.len() {
-        line(name, &words[6..7]);
+        line(rt, name, &words[6..7])?;
     }
+    Ok(())
 }
 
 // Writes whether the words are a sound directory.
-pub(crate) fn audit(words: &[u32]) {
+pub(crate) fn audit(rt: &impl Print, words: &[u32]) -> io::Result<()> {
     if sound::audit(words) {
-        put(b"audit: sound\n");
+        put(rt, "audit: sound\n")
     } else {
-        put(b"audit: not sound\n");
+        put(rt, "audit: not sound\n")
     }
 }
 
 // Writes what `replay` answered.
-fn show_replayed(r: Replayed) {
+fn show_replayed(rt: &impl Print, r: Replayed) -> io::Result<()> {
     match r {
         Replayed::Counts { hits, loads, swaps } => {
-            named(b" hits", hits);
-            named(b" loads", loads);
-            named(b" swaps", swaps);
+            named(rt, " hits", hits)?;
+            named(rt, " loads", loads)?;
+            named(rt, " swaps", swaps)
         }
-        Replayed::Refused(refusal) => refused(refusal.number),
+        Replayed::Refused(refusal) => refused(rt, refusal.number),
     }
 }
 
 // Replays a trace and writes the counts.
-pub(crate) fn replay(words: &mut [u32], trace: &[u32]) {
-    put(b"replay:");
+pub(crate) fn replay(rt: &impl Print, words: &mut [u32], trace: &[u32]) -> io::Result<()> {
+    put(rt, "replay:")?;
     let r = replay::replay(words, trace);
-    show_replayed(r);
-    put(b"\n");
+    show_replayed(rt, r)?;
+    put(rt, "\n")
 }
 
 // Writes what `curve` answered.
-fn show_curved(r: Curved) {
+fn show_curved(rt: &impl Print, r: Curved) -> io::Result<()> {
     match r {
-        Curved::Done => put(b" done"),
-        Curved::Refused(refusal) => refused(refusal.number),
+        Curved::Done => put(rt, " done"),
+        Curved::Refused(refusal) => refused(rt, refusal.number),
     }
 }
 
 // Takes the curve of a trace for capacities 1 to 5, into words that stood at 9, and writes both buffers.
-pub(crate) fn curve(trace: &[u32]) {
+pub(crate) fn curve(rt: &impl Print, trace: &[u32]) -> io::Result<()> {
     let mut result = [9u32; 5];
     let mut work = [9u32; 5];
-    put(b"curve:");
+    put(rt, "curve:")?;
     let r = replay::curve(5, trace, &mut result, &mut work);
-    show_curved(r);
-    put(b"\n");
-    line(b"result", &result);
-    line(b"work", &work);
+    show_curved(rt, r)?;
+    put(rt, "\n")?;
+    line(rt, "result", &result)?;
+    line(rt, "work", &work)
 }
 
 // Writes what `read` answered.
-fn show_read(r: ReadText) {
+fn show_read(rt: &impl Print, r: ReadText) -> io::Result<()> {
     match r {
         ReadText::Accepted {
             policy,
@@ -191,25 +199,25 @@ fn show_read(r: ReadText) {
             second,
             count,
         } => {
-            named(b" policy", policy);
-            named(b" capacity", capacity);
-            named(b" first", first);
-            named(b" second", second);
-            named(b" count", count);
+            named(rt, " policy", policy)?;
+            named(rt, " capacity", capacity)?;
+            named(rt, " first", first)?;
+            named(rt, " second", second)?;
+            named(rt, " count", count)
         }
         ReadText::Refused(refusal) => {
-            refused(refusal.number);
-            named(b" line", refusal.carried);
+            refused(rt, refusal.number)?;
+            named(rt, " line", refusal.carried)
         }
     }
 }
 
 // Reads a trace text into two words that stood at 9; writes the answer and the words.
-pub(crate) fn read(text: &[u8]) {
+pub(crate) fn read(rt: &impl Print, text: &[u8]) -> io::Result<()> {
     let mut trace = [9u32; 2];
-    put(b"read:");
+    put(rt, "read:")?;
     let r = trace_text::read(text, &mut trace);
-    show_read(r);
-    put(b"\n");
-    line(b"trace", &trace);
+    show_read(rt, r)?;
+    put(rt, "\n")?;
+    line(rt, "trace", &trace)
 }

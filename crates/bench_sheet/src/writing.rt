@@ -1,40 +1,39 @@
 // Lines of text on standard output: a name, a colon, and numbers or words after it.
+use std::io;
 
-// Writes bytes.
-pub(crate) fn put(text: &[u8]) {
-    io::write_all(1, text);
+// Writes text.
+pub(crate) fn put(rt: &impl Print, text: &str) -> io::Result<()> {
+    rt.print(text)
 }
 
 // Writes a number after a space.
-pub(crate) fn number(n: u32) {
-    put(b" ");
-    io::print_decimal(1, n as u64);
+pub(crate) fn number(rt: &impl Print, n: u32) -> io::Result<()> {
+    print!(rt; " {n}")
 }
 
 // Writes a word and the number that belongs to it.
-pub(crate) fn named(name: &[u8], n: u32) {
-    put(name);
-    number(n);
+pub(crate) fn named(rt: &impl Print, name: &str, n: u32) -> io::Result<()> {
+    put(rt, name)?;
+    number(rt, n)
 }
 
 // Writes a refusal with its number.
-pub(crate) fn refused(n: u32) {
-    named(b" refused", n);
+pub(crate) fn refused(rt: &impl Print, n: u32) -> io::Result<()> {
+    named(rt, " refused", n)
 }
 
 // Writes numbers in their order.
-fn all(numbers: &[u32]) {
-    let mut i = 0;
-    while i < numbers.len() {
-        number(numbers[i]);
-        i += 1;
+fn all(rt: &impl Print, numbers: &[u32]) -> io::Result<()> {
+    for n in numbers {
+        number(rt, *n)?;
     }
+    Ok(())
 }
 
 // Writes a line of numbers under a name.
-pub(crate) fn line(name: &[u8], numbers: &[u32]) {
-    put(name);
-    put(b":");
-    all(numbers);
-    put(b"\n");
+pub(crate) fn line(rt: &impl Print, name: &str, numbers: &[u32]) -> io::Result<()> {
+    put(rt, name)?;
+    put(rt, ":")?;
+    all(rt, numbers)?;
+    put(rt, "\n")
 }

@@ -1,4 +1,4 @@
-// The public calls with a C interface: each returns the refusal number, 0 for none, and a refusal leaves every lent word as it was.
+// The public calls as C is to have them (pagedir_c exports them): each returns the refusal number, 0 for none, and a refusal leaves every lent word as it was.
 #![tactic(auto)]
 
 ghost use Rattle.std.specs.Prelude.{◌≡◌, ◌+◌, ◌*◌};
@@ -14,14 +14,7 @@ use meaning::{
 use settings::NONE;
 
 // The length that pd_form asks.
-#[unsafe(no_mangle)]
-pub extern "C" fn pd_words(
-    policy: u32,
-    capacity: u32,
-    first: u32,
-    second: u32,
-    answer: &mut [u32; 1],
-) -> u32
+pub fn pd_words(policy: u32, capacity: u32, first: u32, second: u32, answer: &mut [u32; 1]) -> u32
     ensures { Told number single (words_for (four policy capacity first second)) answer.old result answer.new }
 {
     let r = policies::words_for(policy, capacity, first, second);
@@ -35,14 +28,7 @@ pub extern "C" fn pd_words(
 }
 
 // Writes a fresh directory over the words.
-#[unsafe(no_mangle)]
-pub extern "C" fn pd_form(
-    policy: u32,
-    capacity: u32,
-    first: u32,
-    second: u32,
-    words: &mut [u32],
-) -> u32
+pub fn pd_form(policy: u32, capacity: u32, first: u32, second: u32, words: &mut [u32]) -> u32
     ensures { Left (formed (four policy capacity first second) words.old) result words.new }
 {
     let r = policies::form(policy, capacity, first, second, words);
@@ -53,8 +39,7 @@ pub extern "C" fn pd_form(
 }
 
 // 1 if the words are a sound directory, else 0.
-#[unsafe(no_mangle)]
-pub extern "C" fn pd_audit(words: &[u32]) -> u32
+pub fn pd_audit(words: &[u32]) -> u32
     ensures { result ≡ one_if (audited words.now) }
 {
     if sound::audit(words) {
@@ -64,8 +49,7 @@ pub extern "C" fn pd_audit(words: &[u32]) -> u32
 }
 
 // Asks for a page: 1 hit, 2 loaded, 3 swapped; the slot; the page put out, or NONE; the marks cleared.
-#[unsafe(no_mangle)]
-pub extern "C" fn pd_request(words: &mut [u32], page: u32, answer: &mut [u32; 4]) -> u32
+pub fn pd_request(words: &mut [u32], page: u32, answer: &mut [u32; 4]) -> u32
     ensures { ToldAnd number reply_words (requested words.old page) answer.old result answer.new words.new }
 {
     let r = policies::request(words, page);
@@ -96,8 +80,7 @@ pub extern "C" fn pd_request(words: &mut [u32], page: u32, answer: &mut [u32; 4]
 }
 
 // Replays a trace: hits, loads and swaps go to the answer.
-#[unsafe(no_mangle)]
-pub extern "C" fn pd_replay(words: &mut [u32], trace: &[u32], answer: &mut [u32; 3]) -> u32
+pub fn pd_replay(words: &mut [u32], trace: &[u32], answer: &mut [u32; 3]) -> u32
     ensures { ToldAnd number count_words (replayed words.old trace.now) answer.old result answer.new words.new }
 {
     let r = replay::replay(words, trace);
@@ -113,8 +96,7 @@ pub extern "C" fn pd_replay(words: &mut [u32], trace: &[u32], answer: &mut [u32;
 }
 
 // Where a page is: 0 absent, 1 held, 2 remembered; and its slot, or NONE.
-#[unsafe(no_mangle)]
-pub extern "C" fn pd_look(words: &[u32], page: u32, answer: &mut [u32; 2]) -> u32
+pub fn pd_look(words: &[u32], page: u32, answer: &mut [u32; 2]) -> u32
     ensures { Told number sight_words (looked words.now page) answer.old result answer.new }
 {
     let r = policies::look(words, page);
@@ -139,8 +121,7 @@ pub extern "C" fn pd_look(words: &[u32], page: u32, answer: &mut [u32; 2]) -> u3
 }
 
 // The pages of a list, front first: how many goes to the answer.
-#[unsafe(no_mangle)]
-pub extern "C" fn pd_report(words: &[u32], list: u32, res: &mut [u32], answer: &mut [u32; 1]) -> u32
+pub fn pd_report(words: &[u32], list: u32, res: &mut [u32], answer: &mut [u32; 1]) -> u32
     ensures { ToldAnd number single (reported words.now list res.old) answer.old result answer.new res.new }
 {
     let r = policies::report(words, list, res);
@@ -154,8 +135,7 @@ pub extern "C" fn pd_report(words: &[u32], list: u32, res: &mut [u32], answer: &
 }
 
 // The LRU hits at each capacity from 1 to the largest, and the LRU list at the largest.
-#[unsafe(no_mangle)]
-pub extern "C" fn pd_curve(largest: u32, trace: &[u32], res: &mut [u32], work: &mut [u32]) -> u32
+pub fn pd_curve(largest: u32, trace: &[u32], res: &mut [u32], work: &mut [u32]) -> u32
     ensures { Left (curved largest trace.now res.old work.old) result (both res.new work.new) }
 {
     let r = replay::curve(largest, trace, res, work);
@@ -173,8 +153,7 @@ fn refusal_at(refusal: Refusal) -> u64
 }
 
 // Reads a trace text: policy, capacity, first, second and count go to the answer, and the pages to the front of the trace.
-#[unsafe(no_mangle)]
-pub extern "C" fn pd_read(text: &[u8], trace: &mut [u32], answer: &mut [u32; 5]) -> u64
+pub fn pd_read(text: &[u8], trace: &mut [u32], answer: &mut [u32; 5]) -> u64
     ensures { ToldAnd number_and_line read_words (read text.now trace.old) answer.old result answer.new trace.new }
 {
     let r = trace_text::read(text, trace);
@@ -198,8 +177,7 @@ pub extern "C" fn pd_read(text: &[u8], trace: &mut [u32], answer: &mut [u32; 5])
 }
 
 // Writes a trace text: its length goes to the answer.
-#[unsafe(no_mangle)]
-pub extern "C" fn pd_write(
+pub fn pd_write(
     policy: u32,
     capacity: u32,
     first: u32,

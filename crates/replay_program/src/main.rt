@@ -8,6 +8,8 @@ ghost use Rattle.meaning.specs.Program.{ended, replay_in, form_in, play_in, prog
 ghost use Rattle.replay_program.specs.Numbers.{five_of};
 
 use meaning::{Formed, ReadText, Refusal, Replayed, WordsFor};
+use std::io;
+use std::io::{Read, Write};
 
 // The numbers of the five lines.
 #[derive(Clone, Copy)]
@@ -140,10 +142,10 @@ fn answer(text: &[u8], out: &mut [u8; 96]) -> usize
 }
 
 // Reads standard input as far as the byte that makes a text too long, and writes the five lines.
-fn main() {
-    let mut text = io::large_buffer();
-    let n = io::read_full(0, &mut text);
+fn main(rt: HostRuntime) -> io::Result<()> {
+    let mut text = Vec::new(rt.alloc());
+    rt.stdin().take(65536).read_to_end(&mut text)?;
     let mut out = [0u8; 96];
-    let k = answer(&text[..n], &mut out);
-    io::write_all(1, &out[..k]);
+    let k = answer(&text, &mut out);
+    rt.stdout().write_all(&out[..k])
 }

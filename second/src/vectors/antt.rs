@@ -32,10 +32,8 @@ pub fn damage_file(comment: &str, vectors: &[DamageVector]) -> String {
 
 /// The text of a file with a list of items.
 fn file(comment: &str, names: &str, list: &str, kind: &str, items: &[String]) -> String {
-    let mut text = format!("{comment}\nuse mathlib.Core.List.{{List, [], _∷_}}\n");
-    text.push_str(&format!(
-        "use Rattle·vectors·specs.specs.Vector.{names}\n\n"
-    ));
+    let mut text = format!("{comment}\nuse Rattle.std.specs.Prelude.{{List, [], ◌∷◌}}\n");
+    text.push_str(&format!("use Rattle.vectors.specs.Vector.{names}\n\n"));
     text.push_str(&format!("abbrev pub {list} : List {kind}\n{list} =\n    "));
     for item in items {
         text.push_str(item);
