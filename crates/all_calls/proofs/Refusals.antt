@@ -1,5 +1,5 @@
 -- A refusal changes nothing that was lent, and its number is one of 1 to 10: of every public call's promise, and of every C function's, which so returns 0 exactly if its call gave its answer.
-use Prim.Native.Nat.{ℕ, zero, suc, ◌*◌, ◌%◌, ◌≤◌, ◌<◌}
+use Prim.Native.Nat.{ℕ, zero, suc, ◌%◌, ◌≤◌}
 use native.Mathlib.Nat.{add-mul-mod_self_left, mod-eq_of_lt}
 use mathlib.Core.Logic.{◌↔◌}
 use mathlib.Core.Path.{◌≡◌, refl, sym, ap, ◌∙◌}

@@ -14,9 +14,9 @@ use Rattle.meaning.specs.Base.{one_if}
 use Rattle.meaning.specs.Neighbours.{NONE}
 use Rattle.meaning.specs.Layout.{is_held, unit, cell_at, list_col}
 use Rattle.meaning.specs.Mem.{Mem, word, held, full, size, back, list_on, with_word6, clear, capacity_in, capacity_of, target_of, word6_in}
-use Rattle.meaning.specs.Room.{Room, as_it_is}
+use Rattle.meaning.specs.Room.{as_it_is}
 use Rattle.meaning.specs.Arc.{step_of, most_target, grown, shrunk, from_t1, replace, arc_b1, arc_b2, arc_full_row, arc_under, arc}
-use Rattle.invariants.specs.Places.{top, list, Repr, Ready, Turns, Says, Any}
+use Rattle.invariants.specs.Places.{top, Repr, Ready, Turns, Says, Any}
 use Rattle.invariants.specs.Assumed.{Arc}
 use Rattle.invariants.proofs.Lists.{split}
 use Rattle.invariants.proofs.Numbers.{by_test}

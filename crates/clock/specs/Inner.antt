@@ -1,6 +1,6 @@
 -- What CLOCK's inner steps ask of a directory, and what they promise.
 use Rattle.std.specs.Prelude.{ℕ, ◌≤◌, ◌<◌, ◌≡◌, Bool, not, List, eqb}
-use Rattle.meaning.specs.Mem.{Mem, held, full, capacity_of, hand_of}
+use Rattle.meaning.specs.Mem.{Mem, held, capacity_of, hand_of}
 use Rattle.meaning.specs.Room.{Done, Room, put_out, load}
 use Rattle.meaning.specs.Clock.{advance, sweep, seats, clock_swap}
 use Rattle.invariants.specs.Assumed.{Clock}

@@ -1,13 +1,13 @@
 -- The laws of LRU on a list, over any list and any capacity: the inclusion property.
 use mathlib.Core.Path.{◌≡◌, refl, sym, ap, ◌∙◌}
 use mathlib.Core.List.{List, [], ◌∷◌, ◌++◌, append-nil}
-use mathlib.Core.Bool.{Bool, true, false, ◌||◌}
+use mathlib.Core.Bool.{Bool, true, false}
 use Prim.Native.Nat.{ℕ, zero, suc, ◌≤◌}
 use native.Mathlib.Nat.{le_refl}
 use native.Mathlib.Omega.{arith}
 use lib.ListN.{length, take, drop, drop_of_length-le}
 use lib.Seq.{take_all, take-take, take-nil}
-use lib.Dec.{ltb, eqb, leb-suc-suc, leb-zero}
+use lib.Dec.{eqb}
 use Rattle.traces.specs.Depth.{found, depth}
 use Rattle.curves.specs.PageList.{erased, erase, to_top, step, list_after, pages_of}
 

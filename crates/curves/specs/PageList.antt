@@ -1,6 +1,6 @@
 -- LRU on a plain list of pages, latest first: the tool that `curve` is proved with. What `curve` promises speaks of directories, and `proofs/Projection.antt` joins the two.
 -- A test picks its case through a small function of the Bool (`found`, `erased`), as antt computes arguments before a call.
-use Rattle.std.specs.Prelude.{ℕ, zero, suc, ◌+◌, Bool, true, false, List, [], ◌∷◌, take, eqb}
+use Rattle.std.specs.Prelude.{ℕ, zero, ◌+◌, Bool, true, false, List, [], ◌∷◌, take, eqb}
 use Rattle.meaning.specs.Base.{one_if}
 use Rattle.meaning.specs.Neighbours.{has}
 

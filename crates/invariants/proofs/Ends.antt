@@ -25,10 +25,10 @@ last_out x [] d n = simp (eqb_same x)
 last_out x (y ∷ K) d n = split NONE y
     (λ z t. no_true (sym n ∙ simp t))
     (λ z t.
-        let e : ahead x (y ∷ K) NONE ≡ ahead y K NONE = simp t in
-        ap (λ (j : ℕ). remove j (x ∷ (y ∷ K))) e ∙ split (ahead y K NONE) x
-        (λ w s. no_true (sym d.0 ∙ ap (has (y ∷ K)) (sym w) ∙ last_in_lem y K (sym (simp t) ∙ n)))
-        (λ w s. simp s (ap (λ (r : List ℕ). x ∷ r) (last_out y K d.1 (sym (simp t) ∙ n)))))
+    let e : ahead x (y ∷ K) NONE ≡ ahead y K NONE = simp t in
+    ap (λ (j : ℕ). remove j (x ∷ (y ∷ K))) e ∙ split (ahead y K NONE) x
+    (λ w s. no_true (sym d.0 ∙ ap (has (y ∷ K)) (sym w) ∙ last_in_lem y K (sym (simp t) ∙ n)))
+    (λ w s. simp s (ap (λ (r : List ℕ). x ∷ r) (last_out y K d.1 (sym (simp t) ∙ n)))))
 
 -- the back of a list is on it, and without it the list is its front
 pub back_out_lem : (L : List ℕ) (n : ℕ) → length L ≡ suc n → Nodup L → has L NONE ≡ false → (has L (before L NONE) ≡ true) × (remove (before L NONE) L ≡ take n L)

@@ -1,9 +1,8 @@
 -- Requests in turn: what one more request does to the counts and to what is left of a trace.
-use Prim.Native.Nat.{ℕ, zero, suc, ◌+◌, ◌≤◌, ◌<◌}
+use Prim.Native.Nat.{ℕ, suc, ◌+◌, ◌≤◌, ◌<◌}
 use mathlib.Core.Path.{◌≡◌, refl, sym, ap, ◌∙◌}
 use mathlib.Core.Bool.{true, false}
 use mathlib.Core.List.{List, [], map}
-use native.Mathlib.Omega.{arith}
 use native.Mathlib.Numerals.{add-one}
 use lib.ListN.{length, drop, get_or, drop_of_length-le}
 use lib.Seq.{drop-cons}
@@ -14,7 +13,6 @@ use Rattle.meaning.specs.Rules.{sound}
 use Rattle.meaning.specs.Calls.{plain, gave, Outcome, refuse, answered, requested, ask, happens, Ran, run, Counts, none, counted_by, counting, in_turn, ran, replayed}
 use Rattle.meaning.specs.Answers.{request_says, replay_says}
 use Rattle.meaning.specs.declared.Answer.{Answer}
-use Rattle.meaning.specs.declared.Answer.TheVariants as answer
 use Rattle.meaning.specs.declared.Replayed.{Replayed}
 use Rattle.meaning.specs.declared.Replayed.TheVariants as replays
 use Rattle.meaning.proofs.Injective.{as_struct}

@@ -7,7 +7,6 @@ use native.Mathlib.Omega.{arith}
 use lib.Dec.{eqb}
 use borrow.Author.Tests.{eqb-true}
 use lib.ListN.{length, take, drop, replicate, length-replicate, length-append}
-use lib.Seq.{take-append_seam}
 use lib.Pow.{pow_mono}
 use Rattle.meaning.specs.declared.Formed.{Formed}
 use Rattle.meaning.specs.declared.Formed.TheVariants as formed
@@ -19,7 +18,7 @@ use Rattle.meaning.specs.declared.ReadText.{ReadText}
 use Rattle.meaning.specs.declared.ReadText.TheVariants as reads
 use Rattle.meaning.specs.Layout.{Settings, four, entries_of, bits_of, length_for, length_of, settings_refusal}
 use Rattle.meaning.specs.Calls.{plain, Said, refused, gave, Counts, refuse, refusal_of, formed as form, words_for, over}
-use Rattle.meaning.specs.Text.{Accepted, Contents, read_text, on_text, read}
+use Rattle.meaning.specs.Text.{Contents, read_text, on_text, read}
 use Rattle.meaning.specs.Program.{Five, ended, finished, onward, replay_in, form_in, play_in, program_room, programmed}
 use Rattle.meaning.specs.Answers.{refusal_says, replay_says, form_says, length_says, read_says}
 use Rattle.invariants.proofs.Accepted.{few_entries}

@@ -14,7 +14,7 @@ use Rattle.meaning.specs.Mem.{Mem, word, size, back, list_on, to_front, first_in
 use Rattle.meaning.specs.Room.{hit_at}
 use Rattle.meaning.specs.Lru.{lru_room}
 use Rattle.meaning.specs.Segmented.{spill, segmented}
-use Rattle.invariants.specs.Places.{list, Repr, Ready, Turns, Says}
+use Rattle.invariants.specs.Places.{Repr, Ready, Turns, Says}
 use Rattle.invariants.specs.Assumed.{Segmented}
 use Rattle.invariants.proofs.Lists.{split, no_true}
 use Rattle.theorems.proofs.Rooms.{list_none}

@@ -1,11 +1,11 @@
 -- Never the wrong slot: for every policy whose step is one of `Steps`, and so over any history from a fresh directory.
 use Prim.Native.Nat.{ℕ, ◌+◌, ◌<◌}
 use mathlib.Core.Path.{◌≡◌, refl, sym, ap, ◌∙◌, subst}
-use mathlib.Core.Bool.{Bool, true, false, ◌&&◌}
+use mathlib.Core.Bool.{true}
 use mathlib.Core.List.{List}
 use native.Mathlib.Omega.{arith}
 use lib.Dec.{leb}
-use borrow.Author.Tests.{ne_eqb, eq-eqb, leb-true, ltb-true}
+use borrow.Author.Tests.{ne_eqb, leb-true, ltb-true}
 use Rattle.meaning.specs.Base.{all}
 use Rattle.meaning.specs.Neighbours.{NONE, put}
 use Rattle.meaning.specs.Layout.{Settings, settings_refusal}

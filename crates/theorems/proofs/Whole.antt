@@ -7,7 +7,7 @@ use lib.Dec.{eqb, leb, ltb}
 use borrow.Author.Tests.{eq-eqb, ne_eqb, le-leb, lt-ltb, leb-true, ltb-true, eqb-true}
 use Rattle.meaning.specs.Neighbours.{NONE, has}
 use Rattle.meaning.specs.Layout.{is_held, is_clock, lists_of, is_list, is_split, entries_of, first_fits, mark_limit, unit}
-use Rattle.meaning.specs.Mem.{Mem, held, size, capacity_of, first_of, policy_of, second_of, word6_of}
+use Rattle.meaning.specs.Mem.{Mem, size, capacity_of, first_of, policy_of, second_of, word6_of}
 use Rattle.meaning.specs.Clock.{clock}
 use Rattle.meaning.specs.Policies.{request}
 use Rattle.meaning.specs.Rules.{word6_fits, arc_sizes, sizes_right}

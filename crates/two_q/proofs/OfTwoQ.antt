@@ -13,15 +13,15 @@ use Rattle.index.specs.declared.Found.TheVariants.{At, Nothing}
 use Rattle.meaning.specs.Base.{one_if}
 use Rattle.meaning.specs.Neighbours.{NONE}
 use Rattle.meaning.specs.Layout.{cell_at, list_col, slot_col}
-use Rattle.meaning.specs.Mem.{Mem, word, held, full, size, back, list_on, first_in, second_in, second_of}
+use Rattle.meaning.specs.Mem.{Mem, word, full, size, back, list_on, first_in, second_in, second_of}
 use Rattle.meaning.specs.Room.{Room, as_it_is, put_out, put_out_to, hit_at}
 use Rattle.meaning.specs.TwoQ.{trimmed, trimmed_room, make_room, two_q}
-use Rattle.invariants.specs.Places.{top, list, Repr, Ready, Turns, Says, Any}
+use Rattle.invariants.specs.Places.{top, Repr, Ready, Turns, Says, Any}
 use Rattle.invariants.specs.Assumed.{TwoQ}
 use Rattle.theorems.specs.Short.{short_room}
 use Rattle.theorems.specs.Sizes.{Resized}
 use Rattle.theorems.specs.Goes.{Out}
-use Rattle.theorems.proofs.Rooms.{list_none, removed}
+use Rattle.theorems.proofs.Rooms.{list_none}
 use Rattle.theorems.proofs.Counts.{list_cases}
 use Rattle.theorems.proofs.Going.{not3}
 use Rattle.theorems.proofs.Short.{short_returns}

@@ -1,14 +1,8 @@
 use mathlib.Core.Path.{◌≡◌, refl, sym, ap, ◌∙◌}
-use mathlib.Core.Bool.{Bool, true, not}
-use mathlib.Core.List.{List}
 use Prim.Native.Nat.{ℕ, zero-le}
 use native.Mathlib.Omega.{arith}
 use borrow.Author.Tests.{eq-eqb, ne_eqb}
-use lib.Dec.{eqb}
-use Rattle.meaning.specs.Base.{every, if◌then◌else◌, ◌⇒◌}
-use Rattle.meaning.specs.Layout.{cell_at}
-use Rattle.meaning.specs.Mem.{word}
-use Rattle.meaning.specs.Rules.{used, holds}
+use Rattle.meaning.specs.Base.{every}
 use Rattle.invariants.proofs.Tests.{fails, clash, every_at, every_more, imp_no, imp_yes, imp_skip}
 use Rattle.rules_efg.proofs.unlike.Goals as goal
 use Rattle.rules_efg.proofs.unlike.Goals.{then-stands+else-cell-v, else-stands}

@@ -1,5 +1,5 @@
 use mathlib.Core.Path.{sym, ◌∙◌}
-use borrow.Author.Tests.{lt-leb, le-leb, not-true, not-false}
+use borrow.Author.Tests.{lt-leb, le-leb}
 use Rattle.meaning.specs.Layout.{settings_refusal}
 use Rattle.settings.proofs.settings_refusal.Goals as goal
 

@@ -1,5 +1,3 @@
-use mathlib.Core.Path.{◌∙◌}
-use lib.ListN.{length-set}
 use native.Mathlib.Omega.{arith}
 use Rattle.text_lines.proofs.Writing.{line_length, line_put}
 use Rattle.text_lines.proofs.put_line.Goals as goal
