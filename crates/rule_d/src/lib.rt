@@ -31,7 +31,8 @@ fn list_right(words: &[u32], j: u32) -> bool
         if cell(words, e, LIST) != j {
             return false;
         }
-        if cell(words, e, PREVIOUS) != before {
+        let lost = cell(words, e, PREVIOUS) != before;
+        if lost {
             return false;
         }
         before = e;

@@ -45,6 +45,9 @@ pub const LAST: usize = 7;
 // What one slot counts in ARC's target.
 pub const UNIT: u32 = 1;
 
+// The largest capacity.
+const LARGEST: u32 = 512;
+
 // Policies by their numbers.
 pub const LRU: u32 = 1;
 
@@ -115,7 +118,7 @@ pub fn settings_refusal(policy: u32, capacity: u32, first: u32, second: u32) -> 
     if capacity < least_capacity(policy) {
         return 2;
     }
-    if 512 < capacity {
+    if LARGEST < capacity {
         return 2;
     }
     if !first_fits(policy, capacity, first) {

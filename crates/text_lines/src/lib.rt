@@ -32,7 +32,8 @@ fn scan_at(text: &[u8], start: usize, first: u64) -> Line
         if b > 57 {
             return Line::Wrong;
         }
-        if acc == 0 {
+        let leading = acc == 0;
+        if leading {
             return Line::Wrong;
         }
         acc = acc * 10 + (b as u64 - 48);

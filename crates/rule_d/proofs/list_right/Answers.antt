@@ -25,17 +25,17 @@ returns-then-cell-j c =
     let at = c.loop-e in
     fails _ (λ h. c.if-cell-j.true (c.cell.ensures ∙ eqb-true _ _ (here at.invariant.trail c.loop-e-test.true (omega arith) (right_is _ _ h).kept).1))
 
-pub returns-then-cell-before : goal.returns-then-cell-before
-returns-then-cell-before c =
+pub returns-then-lost : goal.returns-then-lost
+returns-then-lost c =
     let at = c.loop-e in
-    fails _ (λ h. c.if-cell-before.true (c.cell-in-loop-e.ensures ∙ here_back at.invariant c.loop-e-test.true (omega arith) (right_is _ _ h)))
+    fails _ (λ h. c.if-lost.true (c.cell-in-loop-e.ensures ∙ here_back at.invariant c.loop-e-test.true (omega arith) (right_is _ _ h)))
 
 pub loop-e-preserved : goal.loop-e-preserved
 loop-e-preserved c =
     let at = c.loop-e in
     rw c.cell-e.ensures
     (rest_more at.invariant c.loop-e-test.true (omega arith) (omega arith)
-    (sym c.cell.ensures ∙ c.if-cell-j.false) (sym c.cell-in-loop-e.ensures ∙ c.if-cell-before.false))
+    (sym c.cell.ensures ∙ c.if-cell-j.false) (sym c.cell-in-loop-e.ensures ∙ c.if-lost.false))
 
 pub returns-then-word-before : goal.returns-then-word-before
 returns-then-word-before c =

@@ -15,9 +15,9 @@ pub returns-then-capacity-least_capacity : goal.returns-then-capacity-least_capa
 unfolding settings_refusal
 returns-then-capacity-least_capacity c = simp (le-leb 1 _ c.if-policy-lt-LRU.false, le-leb _ 5 c.if-policy-gt-ARC.false, ← c.least_capacity.ensures, lt-leb _ _ c.if-capacity-least_capacity.true)
 
-pub returns-then-capacity-gt512 : goal.returns-then-capacity-gt512
+pub returns-then-capacity-gt-LARGEST : goal.returns-then-capacity-gt-LARGEST
 unfolding settings_refusal
-returns-then-capacity-gt512 c = simp (le-leb 1 _ c.if-policy-lt-LRU.false, le-leb _ 5 c.if-policy-gt-ARC.false, ← c.least_capacity.ensures, le-leb _ _ c.if-capacity-least_capacity.false, lt-leb _ 512 c.if-capacity-gt512.true)
+returns-then-capacity-gt-LARGEST c = simp (le-leb 1 _ c.if-policy-lt-LRU.false, le-leb _ 5 c.if-policy-gt-ARC.false, ← c.least_capacity.ensures, le-leb _ _ c.if-capacity-least_capacity.false, lt-leb _ 512 c.if-capacity-gt-LARGEST.true)
 
 pub returns-then-not-first_fits : goal.returns-then-not-first_fits
 unfolding settings_refusal
@@ -26,7 +26,7 @@ returns-then-not-first_fits c = simp (
   le-leb _ 5 c.if-policy-gt-ARC.false,
   ← c.least_capacity.ensures,
   le-leb _ _ c.if-capacity-least_capacity.false,
-  le-leb _ 512 c.if-capacity-gt512.false,
+  le-leb _ 512 c.if-capacity-gt-LARGEST.false,
   sym c.first_fits.ensures ∙ c.if-not-first_fits.true,
 )
 
@@ -37,7 +37,7 @@ returns-then-not-second_fits c = simp (
   le-leb _ 5 c.if-policy-gt-ARC.false,
   ← c.least_capacity.ensures,
   le-leb _ _ c.if-capacity-least_capacity.false,
-  le-leb _ 512 c.if-capacity-gt512.false,
+  le-leb _ 512 c.if-capacity-gt-LARGEST.false,
   sym c.first_fits.ensures ∙ c.if-not-first_fits.false,
   sym c.second_fits.ensures ∙ c.if-not-second_fits.true,
 )
@@ -49,7 +49,7 @@ returns c = simp (
   le-leb _ 5 c.if-policy-gt-ARC.false,
   ← c.least_capacity.ensures,
   le-leb _ _ c.if-capacity-least_capacity.false,
-  le-leb _ 512 c.if-capacity-gt512.false,
+  le-leb _ 512 c.if-capacity-gt-LARGEST.false,
   sym c.first_fits.ensures ∙ c.if-not-first_fits.false,
   sym c.second_fits.ensures ∙ c.if-not-second_fits.false,
 )

@@ -25,14 +25,14 @@ returns-then-b-lt48 c = simp (seen c.args.text.now c.args.start c.args.first c.l
 pub returns-then-b-gt57 : goal.returns-then-b-gt57
 returns-then-b-gt57 c = simp (seen c.args.text.now c.args.start c.args.first c.loop-at.at c.loop-at.acc c.loop-at.invariant.1 c.loop-at-test.true, ne_eqb _ _ c.if-b-eq10.false, le-ltb _ _ c.if-b-lt48.false, lt-ltb _ _ c.if-b-gt57.true)
 
-pub returns-then-acc-eq0 : goal.returns-then-acc-eq0
-returns-then-acc-eq0 c = simp (seen c.args.text.now c.args.start c.args.first c.loop-at.at c.loop-at.acc c.loop-at.invariant.1 c.loop-at-test.true, ne_eqb _ _ c.if-b-eq10.false, le-ltb _ _ c.if-b-lt48.false, le-ltb _ _ c.if-b-gt57.false, eq-eqb _ _ c.if-acc-eq0.true)
+pub returns-then-leading : goal.returns-then-leading
+returns-then-leading c = simp (seen c.args.text.now c.args.start c.args.first c.loop-at.at c.loop-at.acc c.loop-at.invariant.1 c.loop-at-test.true, ne_eqb _ _ c.if-b-eq10.false, le-ltb _ _ c.if-b-lt48.false, le-ltb _ _ c.if-b-gt57.false, eq-eqb _ _ c.if-leading.true)
 
 pub returns-then-acc-gt4294967295 : goal.returns-then-acc-gt4294967295
-returns-then-acc-gt4294967295 c = simp (seen c.args.text.now c.args.start c.args.first c.loop-at.at c.loop-at.acc c.loop-at.invariant.1 c.loop-at-test.true, ne_eqb _ _ c.if-b-eq10.false, le-ltb _ _ c.if-b-lt48.false, le-ltb _ _ c.if-b-gt57.false, ne_eqb _ _ c.if-acc-eq0.false, lt-ltb _ _ c.if-acc-gt4294967295.true)
+returns-then-acc-gt4294967295 c = simp (seen c.args.text.now c.args.start c.args.first c.loop-at.at c.loop-at.acc c.loop-at.invariant.1 c.loop-at-test.true, ne_eqb _ _ c.if-b-eq10.false, le-ltb _ _ c.if-b-lt48.false, le-ltb _ _ c.if-b-gt57.false, ne_eqb _ _ c.if-leading.false, lt-ltb _ _ c.if-acc-gt4294967295.true)
 
 pub loop-at-preserved : goal.loop-at-preserved
-loop-at-preserved c = (omega arith, simp (seen c.args.text.now c.args.start c.args.first c.loop-at.at c.loop-at.acc c.loop-at.invariant.1 c.loop-at-test.true, ne_eqb _ _ c.if-b-eq10.false, le-ltb _ _ c.if-b-lt48.false, le-ltb _ _ c.if-b-gt57.false, ne_eqb _ _ c.if-acc-eq0.false, le-ltb _ _ c.if-acc-gt4294967295.false))
+loop-at-preserved c = (omega arith, simp (seen c.args.text.now c.args.start c.args.first c.loop-at.at c.loop-at.acc c.loop-at.invariant.1 c.loop-at-test.true, ne_eqb _ _ c.if-b-eq10.false, le-ltb _ _ c.if-b-lt48.false, le-ltb _ _ c.if-b-gt57.false, ne_eqb _ _ c.if-leading.false, le-ltb _ _ c.if-acc-gt4294967295.false))
 
 pub returns : goal.returns
 returns c = ap (scan c.loop-at.acc) (sym (done c.args.text.now c.loop-at.at c.loop-at-test.false)) ∙ c.loop-at.invariant.1
