@@ -18,7 +18,7 @@ use Rattle.meaning.specs.declared.Replayed.TheVariants as replay
 use Rattle.meaning.specs.declared.Curved.TheVariants as curve
 use Rattle.meaning.specs.declared.ReadText.TheVariants as reads
 use Rattle.meaning.specs.declared.Written.TheVariants as write
-use Rattle.meaning.specs.Base.{if◌then◌else◌}
+use Rattle.std.specs.Prelude.{if◌then◌else◌}
 use Rattle.meaning.specs.Neighbours.{NONE, has}
 use Rattle.meaning.specs.Layout.{Settings, four, longest, most_capacity, length_of, is_list, least_capacity, first_fits, second_fits, settings_refusal}
 use Rattle.meaning.specs.Mem.{decode, policy_of}

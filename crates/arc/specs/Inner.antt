@@ -1,6 +1,5 @@
 -- What ARC's inner steps ask of a directory, and what they promise.
-use Rattle.std.specs.Prelude.{ℕ, ◌+◌, ◌*◌, ◌≤◌, ◌<◌, ◌≡◌, Bool, false, eqb}
-use Rattle.meaning.specs.Base.{if◌then◌else◌}
+use Rattle.std.specs.Prelude.{ℕ, ◌+◌, ◌*◌, ◌≤◌, ◌<◌, ◌≡◌, Bool, false, eqb, if◌then◌else◌}
 use Rattle.meaning.specs.Mem.{Mem, size, back, clear, capacity_of}
 use Rattle.meaning.specs.Room.{Room}
 use Rattle.meaning.specs.Arc.{from_t1, replace}

@@ -7,7 +7,8 @@ use native.Mathlib.Omega.{arith}
 use borrow.Author.Tests.{lt-ltb, le-ltb, lt-leb, le-leb}
 use lib.ListN.{length, drop}
 use lib.Dec.{eqb}
-use Rattle.meaning.specs.Base.{if◌then◌else◌, series, pad}
+use Rattle.std.specs.Prelude.{if◌then◌else◌}
+use Rattle.meaning.specs.Base.{series, pad}
 use Rattle.meaning.specs.Neighbours.{NONE, has}
 use Rattle.invariants.specs.Ram.{Pages}
 use Rattle.meaning.specs.Calls.{plain, gave, Outcome, refuse, over, Buffers, both, curve_refusal, curved, lru_hits, lru_pages}

@@ -9,7 +9,8 @@ use borrow.Author.Tests.{eq-eqb, ne_eqb, le-leb, eqb-true, eqb-false, leb-true, 
 use lib.ListN.{length, take, length-map}
 use lib.Seq.{take_all}
 use lib.Dec.{eqb}
-use Rattle.meaning.specs.Base.{if◌then◌else◌, one_if}
+use Rattle.std.specs.Prelude.{if◌then◌else◌}
+use Rattle.meaning.specs.Base.{one_if}
 use Rattle.meaning.specs.Neighbours.{NONE, put, has, remove, Nodup}
 use Rattle.meaning.specs.Layout.{Settings, four, is_held, is_split, least_capacity, first_fits, second_fits, settings_refusal}
 use Rattle.meaning.specs.Mem.{Mem, words, decode, settings_top, empty, fresh, entry_of, list_on, size, back, held, full, with_slot, with_mark, off, push, hang, unhang, to_front, blanked, clear, fill, enter, lowest, capacity_of, entry_count, policy_of}

@@ -11,7 +11,7 @@ use Rattle.meaning.specs.declared.Looked.{Looked}
 use Rattle.meaning.specs.declared.Looked.TheVariants as look
 use Rattle.index.specs.declared.Found.{Found}
 use Rattle.index.specs.declared.Found.TheVariants.{At, Nothing}
-use Rattle.meaning.specs.Base.{if◌then◌else◌}
+use Rattle.std.specs.Prelude.{if◌then◌else◌}
 use Rattle.meaning.specs.Neighbours.{NONE}
 use Rattle.meaning.specs.Layout.{is_held, cell_at, list_col, slot_col}
 use Rattle.meaning.specs.Mem.{Mem, word, decode, entry_of, list_on, entry_count}

@@ -5,7 +5,7 @@ use Prim.Native.Nat.{ℕ, zero, suc, ◌+◌, ◌*◌, ◌≤◌}
 use native.Mathlib.Omega.{arith}
 use lib.Dec.{eqb, leb}
 use borrow.Author.Tests.{leb-true}
-use Rattle.meaning.specs.Base.{if◌then◌else◌}
+use Rattle.std.specs.Prelude.{if◌then◌else◌}
 use Rattle.meaning.specs.Layout.{is_split, entries_of, least_capacity, first_fits, second_fits, settings_refusal}
 use Rattle.invariants.proofs.Numbers.{by_test}
 use Rattle.invariants.proofs.Tests.{and_left, and_right}

@@ -7,7 +7,8 @@ use native.Mathlib.Numerals.{add-one}
 use native.Mathlib.Omega.{arith}
 use lib.Dec.{eqb}
 use borrow.Author.Tests.{eq-eqb, ne_eqb, not-true, not-false}
-use Rattle.meaning.specs.Base.{if◌then◌else◌, every, tally, one_if, ◌⇒◌}
+use Rattle.std.specs.Prelude.{if◌then◌else◌}
+use Rattle.meaning.specs.Base.{every, tally, one_if, ◌⇒◌}
 use Rattle.invariants.proofs.Lists.{split, no_true}
 use Rattle.invariants.proofs.Families.{not_so}
 

@@ -8,7 +8,7 @@ use Rattle.meaning.specs.Text.{Accepted}
 use Rattle.meaning.specs.declared.Refusal.{Refusal as Refusing}
 use Rattle.meaning.specs.Answers.{form_says, length_says, request_says, slot_says, look_says, report_says, replay_says, curve_says, read_says, write_says}
 use Rattle.meaning.specs.declared.Formed.TheVariants as formed
-use Rattle.meaning.specs.declared.WordsFor.TheVariants as length
+use Rattle.meaning.specs.declared.WordsFor.TheVariants as words_for
 use Rattle.meaning.specs.declared.Answer.{Answer}
 use Rattle.meaning.specs.declared.Answer.TheVariants as answer
 use Rattle.meaning.specs.declared.SlotFor.TheVariants as slot
@@ -70,7 +70,7 @@ form_settles = told form_says (by_case (λ u. formed.Done) formed.Refused) (elim
 
 pub length_settles : Settles length_says
 unfolding by_case
-length_settles = told length_says (by_case length.Count length.Refused) (elim [ length.Count n ↦ refl | length.Refused r ↦ refl ])
+length_settles = told length_says (by_case words_for.Count words_for.Refused) (elim [ words_for.Count n ↦ refl | words_for.Refused r ↦ refl ])
 
 pub request_settles : Settles request_says
 unfolding by_case replied

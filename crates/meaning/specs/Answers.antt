@@ -8,7 +8,7 @@ use Rattle.meaning.specs.declared.Refusal.{Refusal as Refusing}
 use Rattle.meaning.specs.declared.Formed.{Formed}
 use Rattle.meaning.specs.declared.Formed.TheVariants as formed
 use Rattle.meaning.specs.declared.WordsFor.{WordsFor}
-use Rattle.meaning.specs.declared.WordsFor.TheVariants as length
+use Rattle.meaning.specs.declared.WordsFor.TheVariants as words_for
 use Rattle.meaning.specs.declared.Answer.{Answer}
 use Rattle.meaning.specs.declared.Answer.TheVariants as answer
 use Rattle.meaning.specs.declared.SlotFor.{SlotFor}
@@ -37,8 +37,8 @@ form_says (formed.Refused r) = refused (refusal_says r)
 
 -- What an answer of `words_for` says.
 abbrev pub length_says : WordsFor → Said ℕ
-length_says (length.Count n) = gave n
-length_says (length.Refused r) = refused (refusal_says r)
+length_says (words_for.Count n) = gave n
+length_says (words_for.Refused r) = refused (refusal_says r)
 
 -- What an answer of `request` says: NONE stands where no page was put out.
 abbrev pub request_says : Answer → Said Reply

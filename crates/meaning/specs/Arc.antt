@@ -1,6 +1,5 @@
 -- Document 01, "The five policies": ARC. List 1 is T1, list 2 T2, list 3 B1, list 4 B2 (3 and 4 ghosts); word 6 is the target p. Sizes are those before the request moves anything.
-use Rattle.std.specs.Prelude.{ℕ, ◌+◌, ◌*◌, ◌-◌, ◌/◌, min, Bool, true, false, ◌&&◌, ◌||◌, eqb, leb, ltb}
-use Rattle.meaning.specs.Base.{if◌then◌else◌}
+use Rattle.std.specs.Prelude.{ℕ, ◌+◌, ◌*◌, ◌-◌, ◌/◌, min, Bool, true, false, ◌&&◌, ◌||◌, eqb, leb, ltb, if◌then◌else◌}
 use Rattle.meaning.specs.Layout.{is_held, unit}
 use Rattle.meaning.specs.Mem.{Mem, entry_of, list_on, size, back, full, with_word6, to_front, clear, capacity_of, target_of}
 use Rattle.meaning.specs.Room.{Done, Room, as_it_is, put_out, put_out_to, hit_at, enters, returns}

@@ -1,11 +1,5 @@
 -- Small functions on tests, numbers and lists that the other files of specs/ are written with.
-use Rattle.std.specs.Prelude.{ℕ, zero, suc, ◌+◌, Bool, true, false, ◌&&◌, ◌||◌, List, [], ◌∷◌, eqb}
-
-module _ {ℓ} {A : Type ℓ} where
-  infixr 10 if◌then◌else◌
-  abbrev pub if◌then◌else◌ : Bool → A → A → A
-  if true then a else b = a
-  if false then a else b = b
+use Rattle.std.specs.Prelude.{if◌then◌else◌, ℕ, zero, suc, ◌+◌, Bool, true, false, ◌&&◌, ◌||◌, List, [], ◌∷◌, eqb}
 
 -- if the first passes so does the second
 infixr 20 ◌⇒◌

@@ -1,6 +1,6 @@
 -- Document 01, "Calls and their refusals": what each call on words says, and the lent words afterwards, on every input. Refusals come first and in document 01's order.
-use Rattle.std.specs.Prelude.{ℕ, ◌+◌, Bool, not, ◌&&◌, ◌||◌, List, [], ◌∷◌, ◌++◌, map, length, drop, eqb, leb, ltb}
-use Rattle.meaning.specs.Base.{if◌then◌else◌, first, series, pad}
+use Rattle.std.specs.Prelude.{ℕ, ◌+◌, Bool, not, ◌&&◌, ◌||◌, List, [], ◌∷◌, ◌++◌, map, length, drop, eqb, leb, ltb, if◌then◌else◌}
+use Rattle.meaning.specs.Base.{first, series, pad}
 use Rattle.meaning.specs.Neighbours.{NONE, has}
 use Rattle.meaning.specs.Layout.{Settings, four, longest, most_capacity, is_clock, is_list, is_held, length_of, settings_refusal}
 use Rattle.meaning.specs.Mem.{Mem, words, decode, fresh, entry_of, list_on, held, sits, entry_count, policy_of}

@@ -1,6 +1,5 @@
 -- Document 01, "The five policies": CLOCK. Its pages are on list 1 by their words, in no order; each entry's slot is its own number; word 6 is the hand.
-use Rattle.std.specs.Prelude.{ℕ, zero, suc, ◌+◌, eqb}
-use Rattle.meaning.specs.Base.{if◌then◌else◌}
+use Rattle.std.specs.Prelude.{ℕ, zero, suc, ◌+◌, eqb, if◌then◌else◌}
 use Rattle.meaning.specs.Mem.{Mem, entry_of, list_on, full, with_word6, with_mark, enter_seat, capacity_of, hand_of}
 use Rattle.meaning.specs.Room.{Done, Room, as_it_is, put_out, hit_at, load}
 

@@ -1,6 +1,5 @@
 -- Document 01, "The five policies": LRU, on list 1.
-use Rattle.std.specs.Prelude.{ℕ, eqb}
-use Rattle.meaning.specs.Base.{if◌then◌else◌}
+use Rattle.std.specs.Prelude.{ℕ, eqb, if◌then◌else◌}
 use Rattle.meaning.specs.Mem.{Mem, entry_of, list_on, back, full, to_front}
 use Rattle.meaning.specs.Room.{Done, Room, as_it_is, put_out, hit_at, enters}
 

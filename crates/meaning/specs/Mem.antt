@@ -1,7 +1,7 @@
 -- The directory as a value, the words that stand for it, and the operations of the lists and the index on it.
 -- Values out of range are canonical: a header word past 6 is 0, an entry past E is free, a list that is none of 1 to 4 and a chain past the buckets are empty.
-use Rattle.std.specs.Prelude.{ℕ, zero, suc, ◌+◌, ◌^◌, Bool, not, ◌&&◌, List, [], ◌∷◌, length, get_or, eqb, leb, ltb}
-use Rattle.meaning.specs.Base.{open_base, if◌then◌else◌, some, tally, first, find, walk}
+use Rattle.std.specs.Prelude.{ℕ, zero, suc, ◌+◌, ◌^◌, Bool, not, ◌&&◌, List, [], ◌∷◌, length, get_or, eqb, leb, ltb, if◌then◌else◌}
+use Rattle.meaning.specs.Base.{open_base, some, tally, first, find, walk}
 use Rattle.meaning.specs.Neighbours.{NONE, put, has, remove, behind, ahead, after, before}
 use Rattle.meaning.specs.Layout.{open_layout, Settings, is_held, entries_of, bits_of, bucket_of, cell_at, head_at, bucket_at, page_col, list_col, slot_col, next_col, chain_col, mark_col}
 

@@ -1,6 +1,5 @@
 -- Document 01, "The five policies": a request goes by the policy in word 0.
-use Rattle.std.specs.Prelude.{ℕ, eqb}
-use Rattle.meaning.specs.Base.{if◌then◌else◌}
+use Rattle.std.specs.Prelude.{ℕ, eqb, if◌then◌else◌}
 use Rattle.meaning.specs.Mem.{Mem, policy_of}
 use Rattle.meaning.specs.Room.{open_room, Done}
 use Rattle.meaning.specs.Lru.{lru_room, lru}

@@ -1,6 +1,5 @@
 -- What the five policies share: the answer to a request, room for a page, and how a page comes in.
-use Rattle.std.specs.Prelude.{ℕ, eqb}
-use Rattle.meaning.specs.Base.{if◌then◌else◌}
+use Rattle.std.specs.Prelude.{ℕ, eqb, if◌then◌else◌}
 use Rattle.meaning.specs.Neighbours.{NONE}
 use Rattle.meaning.specs.Mem.{open_mem, Mem, free_slot, move_to, clear, enter}
 

@@ -1,6 +1,6 @@
 -- Document 01, "Sound means all of these": rules a to h over any words. Each quantifier is over the numbers below some number, and each walk is over one link.
-use Rattle.std.specs.Prelude.{ℕ, ◌+◌, ◌*◌, ◌^◌, Bool, true, not, ◌&&◌, ◌||◌, List, [], ◌∷◌, length, get_or, eqb, leb, ltb}
-use Rattle.meaning.specs.Base.{if◌then◌else◌, all, last_or, every, tally, ◌⇒◌}
+use Rattle.std.specs.Prelude.{ℕ, ◌+◌, ◌*◌, ◌^◌, Bool, true, not, ◌&&◌, ◌||◌, List, [], ◌∷◌, length, get_or, eqb, leb, ltb, if◌then◌else◌}
+use Rattle.meaning.specs.Base.{all, last_or, every, tally, ◌⇒◌}
 use Rattle.meaning.specs.Neighbours.{NONE, has}
 use Rattle.meaning.specs.Layout.{is_clock, is_list, is_held, entries_of, bits_of, length_for, bucket_of, settings_refusal, mark_limit, unit, cell_at, head_at, tail_at, bucket_at, last_col, list_col, mark_col, next_col, page_col, previous_col, slot_col, chain_col}
 use Rattle.meaning.specs.Mem.{word, linked, E, bits_in, capacity_in, end_in, first_in, policy_in, second_in, word6_in}

@@ -1,6 +1,5 @@
 -- Document 01, "The five policies": segmented LRU. List 1 is probation P, list 2 protected Q; first is the most that Q holds.
-use Rattle.std.specs.Prelude.{ℕ, eqb, ltb}
-use Rattle.meaning.specs.Base.{if◌then◌else◌}
+use Rattle.std.specs.Prelude.{ℕ, eqb, ltb, if◌then◌else◌}
 use Rattle.meaning.specs.Mem.{Mem, entry_of, list_on, size, back, to_front, first_of}
 use Rattle.meaning.specs.Room.{Done, hit_at, enters}
 use Rattle.meaning.specs.Lru.{lru_room}

@@ -1,6 +1,5 @@
 -- Document 01, "Trace text": the text that is written, and what reading a text means. A text is a list of bytes.
-use Rattle.std.specs.Prelude.{ℕ, zero, suc, ◌+◌, ◌-◌, ◌*◌, ◌/◌, ◌%◌, cond, List, [], ◌∷◌, ◌++◌, length, ltb, eqb}
-use Rattle.meaning.specs.Base.{if◌then◌else◌}
+use Rattle.std.specs.Prelude.{ℕ, zero, suc, ◌+◌, ◌-◌, ◌*◌, ◌/◌, ◌%◌, cond, List, [], ◌∷◌, ◌++◌, length, ltb, eqb, if◌then◌else◌}
 use Rattle.meaning.specs.Layout.{Settings, four, longest}
 use Rattle.meaning.specs.Calls.{open_calls, Refusal, plain, Said, refused, gave, Outcome, refuse, over}
 

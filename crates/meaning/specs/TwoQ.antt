@@ -1,6 +1,5 @@
 -- Document 01, "The five policies": 2Q. List 1 is A1in, list 2 Am, list 3 A1out (ghosts); first is Kin, second is Kout.
-use Rattle.std.specs.Prelude.{ℕ, not, eqb, ltb}
-use Rattle.meaning.specs.Base.{if◌then◌else◌}
+use Rattle.std.specs.Prelude.{ℕ, not, eqb, ltb, if◌then◌else◌}
 use Rattle.meaning.specs.Mem.{Mem, entry_of, list_on, size, back, full, off, to_front, clear, first_of, second_of}
 use Rattle.meaning.specs.Room.{Done, Room, as_it_is, put_out, put_out_to, hit_at, enters, returns}
 

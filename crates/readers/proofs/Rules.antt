@@ -7,7 +7,8 @@ use native.Mathlib.Omega.{arith}
 use lib.ListN.{get_or}
 use lib.Dec.{eqb, leb, ltb, lit<}
 use borrow.Author.Tests.{eqb-true, eqb-false, ne_eqb, leb-true, lt-leb, not-true}
-use Rattle.meaning.specs.Base.{if◌then◌else◌, every, ◌⇒◌}
+use Rattle.std.specs.Prelude.{if◌then◌else◌}
+use Rattle.meaning.specs.Base.{every, ◌⇒◌}
 use Rattle.meaning.specs.Neighbours.{NONE, has}
 use Rattle.meaning.specs.Layout.{is_clock, is_list, mark_limit, cell_at, head_at, tail_at}
 use Rattle.meaning.specs.Mem.{word, bits_in, policy_in, E}

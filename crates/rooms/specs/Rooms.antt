@@ -1,7 +1,6 @@
 -- What making room and filling it ask of a directory, and what they promise.
-use Rattle.std.specs.Prelude.{ℕ, ◌≤◌, ◌≡◌, true, List, eqb}
+use Rattle.std.specs.Prelude.{ℕ, ◌≤◌, ◌≡◌, true, List, eqb, if◌then◌else◌}
 use Rattle.meaning.specs.declared.Answer.{Answer}
-use Rattle.meaning.specs.Base.{if◌then◌else◌}
 use Rattle.meaning.specs.Neighbours.{NONE}
 use Rattle.meaning.specs.Mem.{Mem, size, back, full, to_front, clear}
 use Rattle.meaning.specs.Room.{loaded, swapped, Reply, Done, Room, put_out, put_out_to, hit_at, load, enters, returns}

@@ -1,8 +1,8 @@
 // Rules e, f and g: pages, slots and chains.
 #![tactic(auto)]
 
-ghost use Rattle.std.specs.Prelude.{◌≡◌, true, ◌+◌, ◌^◌, ◌<◌};
-ghost use Rattle.meaning.specs.Base.{every, if◌then◌else◌};
+ghost use Rattle.std.specs.Prelude.{◌≡◌, true, ◌+◌, ◌^◌, ◌<◌, if◌then◌else◌};
+ghost use Rattle.meaning.specs.Base.{every};
 ghost use Rattle.meaning.specs.Mem.{E, bits_in};
 ghost use Rattle.meaning.specs.Rules.{used, holds, unlike, page_new, rule_e, slot_right, rule_f, bucket_in, chain_right, chained, rule_g};
 ghost use Rattle.readers.specs.Sized.{Sized};

@@ -6,7 +6,7 @@ use mathlib.Core.List.{[]}
 use native.Mathlib.Omega.{arith}
 use lib.Dec.{eqb, leb}
 use borrow.Author.Tests.{eq-eqb, ne_eqb, lt-ltb, leb-true, leb-false, ltb-true, eqb-true, eqb-false}
-use Rattle.meaning.specs.Base.{if◌then◌else◌}
+use Rattle.std.specs.Prelude.{if◌then◌else◌}
 use Rattle.meaning.specs.Neighbours.{NONE, put}
 use Rattle.meaning.specs.Layout.{is_held}
 use Rattle.meaning.specs.Mem.{Mem, held, full, list_on, lowest, free_slot, with_word6, with_mark, with_slot, hang, unhang, blanked, seat, clear, enter_seat, capacity_of, entry_count, hand_of}

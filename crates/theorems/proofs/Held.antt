@@ -6,7 +6,7 @@ use mathlib.Core.Logic.{inl, inr, ⊎_elim, ◌↔◌}
 use native.Mathlib.Omega.{arith}
 use lib.Dec.{eqb}
 use borrow.Author.Tests.{eq-eqb}
-use Rattle.meaning.specs.Base.{if◌then◌else◌}
+use Rattle.std.specs.Prelude.{if◌then◌else◌}
 use Rattle.meaning.specs.Neighbours.{NONE}
 use Rattle.meaning.specs.Layout.{is_held}
 use Rattle.meaning.specs.Mem.{Mem, entry_of, list_on}

@@ -5,7 +5,7 @@ use mathlib.Core.Bool.{Bool, true, false}
 use native.Mathlib.Omega.{arith}
 use lib.Dec.{eqb}
 use borrow.Author.Tests.{eq-eqb, ne_eqb}
-use Rattle.meaning.specs.Base.{if◌then◌else◌}
+use Rattle.std.specs.Prelude.{if◌then◌else◌}
 use Rattle.meaning.specs.Neighbours.{NONE}
 use Rattle.meaning.specs.Layout.{is_held}
 use Rattle.meaning.specs.Mem.{Mem}

@@ -7,7 +7,8 @@ use native.Mathlib.Omega.{arith}
 use lib.Dec.{eqb, leb, ltb}
 use lib.ListN.{length}
 use borrow.Author.Tests.{ne_eqb, le-ltb, leb-true, ltb-true, ltb-false}
-use Rattle.meaning.specs.Base.{if◌then◌else◌, first, some, tally}
+use Rattle.std.specs.Prelude.{if◌then◌else◌}
+use Rattle.meaning.specs.Base.{first, some, tally}
 use Rattle.meaning.specs.Neighbours.{NONE, put, has, remove, before, Nodup}
 use Rattle.meaning.specs.Layout.{is_held}
 use Rattle.meaning.specs.Mem.{Mem, held, full, size, back, taken, free_slot, off, push, unhang, with_slot, with_mark, blanked, to_front, move_to, clear, capacity_of, entry_count, first_of, second_of}

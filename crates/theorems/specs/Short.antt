@@ -1,6 +1,5 @@
 -- 2Q's room for a page that comes back from A1out, in short: nothing is trimmed, and the page need not be taken off A1out first.
-use Rattle.std.specs.Prelude.{not, ltb}
-use Rattle.meaning.specs.Base.{if◌then◌else◌}
+use Rattle.std.specs.Prelude.{not, ltb, if◌then◌else◌}
 use Rattle.meaning.specs.Mem.{Mem, size, back, full, first_of}
 use Rattle.meaning.specs.Room.{Room, as_it_is, put_out, put_out_to}
 

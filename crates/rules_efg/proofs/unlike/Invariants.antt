@@ -1,7 +1,8 @@
 use mathlib.Core.Path.{◌≡◌}
 use mathlib.Core.Bool.{Bool, true, not}
 use Prim.Native.Nat.{ℕ, ◌-◌, ◌≤◌}
-use Rattle.meaning.specs.Base.{every, if◌then◌else◌, ◌⇒◌}
+use Rattle.std.specs.Prelude.{if◌then◌else◌}
+use Rattle.meaning.specs.Base.{every, ◌⇒◌}
 use Rattle.meaning.specs.Layout.{cell_at}
 use Rattle.meaning.specs.Mem.{word}
 use Rattle.meaning.specs.Rules.{used, holds}

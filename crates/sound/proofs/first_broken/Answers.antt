@@ -2,7 +2,7 @@ use mathlib.Core.Path.{◌≡◌, refl, sym, ◌∙◌}
 use mathlib.Core.Bool.{not}
 use mathlib.Core.List.{List}
 use Prim.Native.Nat.{ℕ}
-use Rattle.meaning.specs.Base.{if◌then◌else◌}
+use Rattle.std.specs.Prelude.{if◌then◌else◌}
 use Rattle.meaning.specs.Rules.{rule_a, rule_b, rule_c, rule_d, rule_e, rule_f, rule_g, rule_h, broken}
 use Rattle.readers.specs.Sized.{Sized}
 use Rattle.invariants.proofs.Tests.{yes, stop, pass}
