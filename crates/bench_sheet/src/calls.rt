@@ -1,5 +1,6 @@
 // The public calls, each with its answer written as a line.
-ghost use Rattle.std.specs.Prelude.{◌≤◌, length, IfOk};
+ghost use Rattle.io.specs.Counts.{IsPrefixLen};
+ghost use Rattle.std.specs.Prelude.{IfOk};
 
 use crate::writing::{line, named, number, put, refused};
 use meaning::{Answer, Curved, Formed, Looked, ReadText, Replayed, Reported, WordsFor};
@@ -113,7 +114,7 @@ pub(crate) fn look_all(rt: &impl Print, words: &[u32], pages: &[u32]) -> io::Res
 
 // Reports a list into a buffer and gives how many pages it has; a refusal is written, and gives none.
 fn reported(rt: &impl Print, words: &[u32], list: u32, res: &mut [u32]) -> io::Result<usize>
-    ensures { IfOk result (λ n. n ≤ length res.new) }
+    ensures { IfOk result (λ n. IsPrefixLen n res.new) }
 {
     let r = policies::report(words, list, res);
     match r {
