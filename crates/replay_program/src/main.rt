@@ -1,7 +1,7 @@
 // The replay program: a trace text on standard input, five lines on standard output.
 #![tactic(auto)]
 
-ghost use Rattle.std.specs.Prelude.{◌≡◌, ◌≤◌, length, take};
+ghost use Rattle.std.specs.Prelude.{IfOk, ◌≡◌, ◌≤◌, length, take};
 ghost use Rattle.meaning.specs.Layout.{four};
 ghost use Rattle.meaning.specs.Answers.{refusal_says};
 ghost use Rattle.meaning.specs.Program.{ended, replay_in, form_in, play_in, program_room, programmed, five_lines};
@@ -141,11 +141,26 @@ fn answer(text: &[u8], out: &mut [u8; 96]) -> usize
     write_five(five, out)
 }
 
+// Fills the buffer from its front with what is read, up to its end or the input's, and gives how many bytes that are.
+fn read_full(input: &mut impl Read, text: &mut [u8]) -> io::Result<usize>
+    ensures { IfOk result (λ n. n ≤ length text.new) }
+{
+    let mut done = 0;
+    while done < text.len() {
+        let n = input.read(&mut text[done..])?;
+        if n == 0 {
+            break;
+        }
+        done += n;
+    }
+    Ok(done)
+}
+
 // Reads standard input as far as the byte that makes a text too long, and writes the five lines.
 fn main(rt: HostRuntime) -> io::Result<()> {
-    let mut text = Vec::new(rt.alloc());
-    rt.stdin().take(65536).read_to_end(&mut text)?;
+    let mut text = [0u8; 65536];
+    let n = read_full(&mut rt.stdin(), &mut text)?;
     let mut out = [0u8; 96];
-    let k = answer(&text, &mut out);
+    let k = answer(&text[..n], &mut out);
     rt.stdout().write_all(&out[..k])
 }
