@@ -9,7 +9,6 @@ ghost use Rattle.curves.specs.PageList.{step, list_after, pages_of, hits_of};
 ghost use Rattle.curves.specs.Curve.{CurvedAs, moved, bump, bumps, total, sums};
 
 use meaning::{CAPACITY_OUTSIDE, Curved, PAGE_IS_NONE, TOO_LONG, TOO_SHORT};
-use settings::NONE;
 use traces::find;
 
 // Every word of s becomes v.
@@ -86,7 +85,7 @@ fn curve_into(trace: &[u32], res: &mut [u32], work: &mut [u32])
     ensures { (res.new ≡ series (hits_of trace.now) (length work.old) 1) × (work.new ≡ pad NONE (length work.old) (pages_of (length work.old) trace.now)) }
 {
     fill(res, 0);
-    fill(work, NONE);
+    fill(work, settings::NONE);
     walk(trace, res, work);
     add_up(res);
 }
@@ -104,7 +103,7 @@ pub fn curve(largest: u32, trace: &[u32], res: &mut [u32], work: &mut [u32]) -> 
     if 65535 < trace.len() {
         return Curved::Refused(TOO_LONG);
     }
-    let none = find(trace, NONE);
+    let none = find(trace, settings::NONE);
     if none < trace.len() {
         return Curved::Refused(PAGE_IS_NONE);
     }

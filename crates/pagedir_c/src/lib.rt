@@ -1,4 +1,4 @@
-// The C functions of the static library, each by its symbol and in the order of the header: what each promises is what pagedir's function of that name does.
+// The C functions of the static library, each by its symbol: what each promises is what pagedir's function of that name does.
 #![tactic(auto)]
 
 ghost use Rattle.std.specs.Prelude.{◌≡◌};

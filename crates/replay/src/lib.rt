@@ -10,7 +10,6 @@ ghost use Rattle.replay.specs.Replays.{tallied, RanAs, ReplayedAs};
 
 pub use curves::curve;
 use meaning::{Answer, PAGE_IS_NONE, Replayed, TOO_LONG, UNSOUND};
-use settings::NONE;
 use traces::find;
 
 // How many requests so far were hits, loads and swaps.
@@ -85,7 +84,7 @@ pub fn replay(words: &mut [u32], trace: &[u32]) -> Replayed
     if 65535 < trace.len() {
         return Replayed::Refused(TOO_LONG);
     }
-    let none = find(trace, NONE);
+    let none = find(trace, settings::NONE);
     if none < trace.len() {
         return Replayed::Refused(PAGE_IS_NONE);
     }
