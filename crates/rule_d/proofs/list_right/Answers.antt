@@ -1,3 +1,5 @@
+use Prim.Native.Nat.{ℕ}
+use mathlib.Core.List.{List}
 use mathlib.Core.Path.{◌≡◌, sym, ap, ◌∙◌}
 use native.Mathlib.Omega.{arith}
 use borrow.Author.Tests.{eqb-true}
@@ -6,6 +8,10 @@ use Rattle.meaning.specs.Mem.{word}
 use Rattle.invariants.proofs.Tests.{fails}
 use Rattle.invariants.proofs.Listed.{right_is, is_right, rest_start, over_long, here, here_back, rest_more, all_steps, all_last, rest_done}
 use Rattle.rule_d.proofs.list_right.Goals as goal
+
+-- the tail that was read is that of list j
+tail : (ws : List ℕ) (j : ℕ) {a t : ℕ} → t ≡ word ws a → a ≡ tail_at j → t ≡ word ws (tail_at j)
+tail ws j e k = e ∙ ap (word ws) k
 
 pub loop-e-init : goal.loop-e-init
 loop-e-init c =
@@ -38,14 +44,10 @@ loop-e-preserved c =
     (sym c.cell.ensures ∙ c.if-cell-j.false) (sym c.cell-in-loop-e.ensures ∙ c.if-lost.false))
 
 pub returns-then-word-before : goal.returns-then-word-before
-returns-then-word-before c =
-    let tail : c.word.result ≡ word c.args.words.now (tail_at c.args.j) = c.word.ensures ∙ ap (word c.args.words.now) c.tail_at.ensures in
-    fails _ (λ h. c.if-word-before.true (tail ∙ (right_is _ _ h).tail ∙ all_last c.loop-e.invariant c.loop-e-test.false))
+returns-then-word-before c = fails _ (λ h. c.if-word-before.true (tail c.args.words.now c.args.j c.word.ensures c.tail_at.ensures ∙ (right_is _ _ h).tail ∙ all_last c.loop-e.invariant c.loop-e-test.false))
 
 pub returns-then-count_on-n : goal.returns-then-count_on-n
 returns-then-count_on-n c = fails _ (λ h. c.if-count_on-n.true (omega (arith, all_steps c.loop-e.invariant.trail c.loop-e-test.false, (right_is _ _ h).exact, c.count_on.ensures.0)))
 
 pub returns : goal.returns
-returns c =
-    let tail : c.word.result ≡ word c.args.words.now (tail_at c.args.j) = c.word.ensures ∙ ap (word c.args.words.now) c.tail_at.ensures in
-    sym (is_right (rest_done c.loop-e.invariant c.loop-e-test.false (sym (tail) ∙ c.if-word-before.false) (omega (arith, c.count_on.ensures.0))))
+returns c = sym (is_right (rest_done c.loop-e.invariant c.loop-e-test.false (sym (tail c.args.words.now c.args.j c.word.ensures c.tail_at.ensures) ∙ c.if-word-before.false) (omega (arith, c.count_on.ensures.0))))

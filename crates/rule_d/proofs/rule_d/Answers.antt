@@ -1,5 +1,6 @@
 use mathlib.Core.Path.{◌≡◌, sym, ap, ◌∙◌}
-use mathlib.Core.Bool.{true, not}
+use mathlib.Core.Bool.{Bool, true, false, not}
+use mathlib.Core.List.{List}
 use Prim.Native.Nat.{ℕ}
 use borrow.Author.Tests.{not-true, not-false}
 use Rattle.meaning.specs.Base.{every}
@@ -9,24 +10,25 @@ use Rattle.meaning.specs.Rules.{rule_d, clock_right}
 use Rattle.invariants.proofs.Tests.{joins}
 use Rattle.rule_d.proofs.rule_d.Goals as goal
 
+-- a policy whose lists have no order is CLOCK
+clock : (ws : List ℕ) {p : ℕ} {r : Bool} → p ≡ policy_in ws → r ≡ not (is_clock p) → r ≡ false → is_clock (policy_in ws) ≡ true
+clock ws ep e h = not-false _ (ap (λ (p : ℕ). not (is_clock p)) (sym ep) ∙ sym e ∙ h)
+
+-- and any other is not
+listed : (ws : List ℕ) {p : ℕ} {r : Bool} → p ≡ policy_in ws → r ≡ not (is_clock p) → r ≡ true → is_clock (policy_in ws) ≡ false
+listed ws ep e h = not-true _ (ap (λ (p : ℕ). not (is_clock p)) (sym ep) ∙ sym e ∙ h)
+
 pub returns-then-has_order : goal.returns-then-has_order
 unfolding rule_d
-returns-then-has_order c =
-    let ordered : c.has_order.result ≡ not (is_clock (policy_in c.args.words.now)) = c.has_order.ensures ∙ ap (λ (p : ℕ). not (is_clock p)) c.word.ensures in
-    simp (not-true (is_clock (policy_in c.args.words.now)) (sym (ordered) ∙ c.if-has_order.true)) c.every.ensures
+returns-then-has_order c = simp (listed c.args.words.now c.word.ensures c.has_order.ensures c.if-has_order.true) c.every.ensures
 
 pub returns-then-every : goal.returns-then-every
 unfolding rule_d
 returns-then-every c =
-    let ordered : c.has_order.result ≡ not (is_clock (policy_in c.args.words.now)) = c.has_order.ensures ∙ ap (λ (p : ℕ). not (is_clock p)) c.word.ensures in
-    let clock : is_clock (policy_in c.args.words.now) ≡ true = not-false (is_clock (policy_in c.args.words.now)) (sym (ordered) ∙ c.if-has_order.false) in
     let ws = c.args.words.now in
-    simp (clock)
+    simp (clock ws c.word.ensures c.has_order.ensures c.if-has_order.false)
     (joins (sym c.every-2.ensures ∙ c.if-every.true) (c.every-then-every.ensures ∙ ap (λ (m : ℕ). every m (clock_right ws)) c.word-then-every.ensures))
 
 pub returns : goal.returns
 unfolding rule_d
-returns c =
-    let ordered : c.has_order.result ≡ not (is_clock (policy_in c.args.words.now)) = c.has_order.ensures ∙ ap (λ (p : ℕ). not (is_clock p)) c.word.ensures in
-    let clock : is_clock (policy_in c.args.words.now) ≡ true = not-false (is_clock (policy_in c.args.words.now)) (sym (ordered) ∙ c.if-has_order.false) in
-    simp (clock, sym c.every-2.ensures ∙ c.if-every.false)
+returns c = simp (clock c.args.words.now c.word.ensures c.has_order.ensures c.if-has_order.false, sym c.every-2.ensures ∙ c.if-every.false)
