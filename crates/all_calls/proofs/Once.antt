@@ -3,16 +3,13 @@ use Prim.Native.Nat.{ℕ}
 use mathlib.Core.Path.{◌≡◌, refl}
 use mathlib.Core.Bool.{Bool}
 use mathlib.Core.List.{List}
-use Rattle.meaning.specs.declared.Formed.{Formed}
-use Rattle.meaning.specs.declared.WordsFor.{WordsFor}
+use Rattle.std.specs.Prelude.{Result}
+use Rattle.meaning.specs.declared.Refusal.{Refusal}
 use Rattle.meaning.specs.declared.Answer.{Answer}
-use Rattle.meaning.specs.declared.SlotFor.{SlotFor}
 use Rattle.meaning.specs.declared.Looked.{Looked}
-use Rattle.meaning.specs.declared.Reported.{Reported}
-use Rattle.meaning.specs.declared.Replayed.{Replayed}
-use Rattle.meaning.specs.declared.Curved.{Curved}
-use Rattle.meaning.specs.declared.ReadText.{ReadText}
-use Rattle.meaning.specs.declared.Written.{Written}
+use Rattle.meaning.specs.declared.Counts.{Counts}
+use Rattle.meaning.specs.declared.Accepted.{Accepted}
+use Rattle.meaning.specs.Layout.{Settings}
 use Rattle.meaning.specs.Base.{one_if}
 use Rattle.meaning.specs.Calls.{Said, Outcome, both, audited}
 use Rattle.meaning.proofs.Injective.{Settles, no_second, form_settles, length_settles, request_settles, slot_settles, look_settles, report_settles, replay_settles, curve_settles, read_settles, write_settles}
@@ -31,37 +28,37 @@ itself a b e = e
 
 -- ── The calls in Rattle ──
 
-pub form_once : {p c f s : ℕ} {ws ws₁ ws₂ : List ℕ} {r₁ r₂ : Formed} → FormedAs p c f s ws r₁ ws₁ → FormedAs p c f s ws r₂ ws₂ → (r₁ ≡ r₂) × (ws₁ ≡ ws₂)
+pub form_once : {s : Settings} {ws ws₁ ws₂ : List ℕ} {r₁ r₂ : Result (Unit {0}) Refusal} → FormedAs s ws r₁ ws₁ → FormedAs s ws r₂ ws₂ → (r₁ ≡ r₂) × (ws₁ ≡ ws₂)
 form_once x y = no_second form_settles (x.answer, x.memory) (y.answer, y.memory)
 
-pub length_once : {p c f s : ℕ} {r₁ r₂ : WordsFor} → LongAs p c f s r₁ → LongAs p c f s r₂ → r₁ ≡ r₂
+pub length_once : {s : Settings} {r₁ r₂ : Result ℕ Refusal} → LongAs s r₁ → LongAs s r₂ → r₁ ≡ r₂
 length_once x y = (no_second length_settles {left = tt {0}} (x.answer, refl) (y.answer, refl)).0
 
 pub audit_once : (ws : List ℕ) {r₁ r₂ : Bool} → r₁ ≡ audited ws → r₂ ≡ audited ws → r₁ ≡ r₂
 audit_once ws x y = (no_second itself {left = tt {0}} (x, refl) (y, refl)).0
 
-pub request_once : {ws ws₁ ws₂ : List ℕ} {p : ℕ} {r₁ r₂ : Answer} → Requested ws p r₁ ws₁ → Requested ws p r₂ ws₂ → (r₁ ≡ r₂) × (ws₁ ≡ ws₂)
+pub request_once : {ws ws₁ ws₂ : List ℕ} {p : ℕ} {r₁ r₂ : Result Answer Refusal} → Requested ws p r₁ ws₁ → Requested ws p r₂ ws₂ → (r₁ ≡ r₂) × (ws₁ ≡ ws₂)
 request_once x y = no_second request_settles (x.answer, x.memory) (y.answer, y.memory)
 
-pub slot_once : {ws ws₁ ws₂ : List ℕ} {p : ℕ} {r₁ r₂ : SlotFor} → SlotGiven ws p r₁ ws₁ → SlotGiven ws p r₂ ws₂ → (r₁ ≡ r₂) × (ws₁ ≡ ws₂)
+pub slot_once : {ws ws₁ ws₂ : List ℕ} {p : ℕ} {r₁ r₂ : Result ℕ Refusal} → SlotGiven ws p r₁ ws₁ → SlotGiven ws p r₂ ws₂ → (r₁ ≡ r₂) × (ws₁ ≡ ws₂)
 slot_once x y = no_second slot_settles (x.answer, x.memory) (y.answer, y.memory)
 
-pub look_once : {ws : List ℕ} {p : ℕ} {r₁ r₂ : Looked} → LookedAs ws p r₁ → LookedAs ws p r₂ → r₁ ≡ r₂
+pub look_once : {ws : List ℕ} {p : ℕ} {r₁ r₂ : Result Looked Refusal} → LookedAs ws p r₁ → LookedAs ws p r₂ → r₁ ≡ r₂
 look_once x y = (no_second look_settles {left = tt {0}} (x.answer, refl) (y.answer, refl)).0
 
-pub report_once : {ws : List ℕ} {j : ℕ} {buffer b₁ b₂ : List ℕ} {r₁ r₂ : Reported} → ReportedAs ws j buffer r₁ b₁ → ReportedAs ws j buffer r₂ b₂ → (r₁ ≡ r₂) × (b₁ ≡ b₂)
+pub report_once : {ws : List ℕ} {j : ℕ} {buffer b₁ b₂ : List ℕ} {r₁ r₂ : Result ℕ Refusal} → ReportedAs ws j buffer r₁ b₁ → ReportedAs ws j buffer r₂ b₂ → (r₁ ≡ r₂) × (b₁ ≡ b₂)
 report_once x y = no_second report_settles (x.answer, x.memory) (y.answer, y.memory)
 
-pub replay_once : {ws trace ws₁ ws₂ : List ℕ} {r₁ r₂ : Replayed} → ReplayedAs ws trace r₁ ws₁ → ReplayedAs ws trace r₂ ws₂ → (r₁ ≡ r₂) × (ws₁ ≡ ws₂)
+pub replay_once : {ws trace ws₁ ws₂ : List ℕ} {r₁ r₂ : Result Counts Refusal} → ReplayedAs ws trace r₁ ws₁ → ReplayedAs ws trace r₂ ws₂ → (r₁ ≡ r₂) × (ws₁ ≡ ws₂)
 replay_once x y = no_second replay_settles (x.answer, x.memory) (y.answer, y.memory)
 
-pub curve_once : {m : ℕ} {t r w r₁ r₂ w₁ w₂ : List ℕ} {a₁ a₂ : Curved} → CurvedAs m t r w a₁ r₁ w₁ → CurvedAs m t r w a₂ r₂ w₂ → (a₁ ≡ a₂) × (both r₁ w₁ ≡ both r₂ w₂)
+pub curve_once : {m : ℕ} {t r w r₁ r₂ w₁ w₂ : List ℕ} {a₁ a₂ : Result (Unit {0}) Refusal} → CurvedAs m t r w a₁ r₁ w₁ → CurvedAs m t r w a₂ r₂ w₂ → (a₁ ≡ a₂) × (both r₁ w₁ ≡ both r₂ w₂)
 curve_once x y = no_second curve_settles (x.answer, x.memory) (y.answer, y.memory)
 
-pub read_once : {text trace t₁ t₂ : List ℕ} {r₁ r₂ : ReadText} → ReadAs text trace r₁ t₁ → ReadAs text trace r₂ t₂ → (r₁ ≡ r₂) × (t₁ ≡ t₂)
+pub read_once : {text trace t₁ t₂ : List ℕ} {r₁ r₂ : Result Accepted Refusal} → ReadAs text trace r₁ t₁ → ReadAs text trace r₂ t₂ → (r₁ ≡ r₂) × (t₁ ≡ t₂)
 read_once x y = no_second read_settles (x.answer, x.memory) (y.answer, y.memory)
 
-pub write_once : {p c f g : ℕ} {trace buffer b₁ b₂ : List ℕ} {r₁ r₂ : Written} → WrittenAs p c f g trace buffer r₁ b₁ → WrittenAs p c f g trace buffer r₂ b₂ → (r₁ ≡ r₂) × (b₁ ≡ b₂)
+pub write_once : {s : Settings} {trace buffer b₁ b₂ : List ℕ} {r₁ r₂ : Result ℕ Refusal} → WrittenAs s trace buffer r₁ b₁ → WrittenAs s trace buffer r₂ b₂ → (r₁ ≡ r₂) × (b₁ ≡ b₂)
 write_once x y = no_second write_settles (x.answer, x.memory) (y.answer, y.memory)
 
 -- ── The C functions ──

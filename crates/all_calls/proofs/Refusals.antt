@@ -10,15 +10,7 @@ use lib.Dec.{eqb, leb, ltb}
 use lib.ListN.{length}
 use borrow.Author.Tests.{eq-eqb}
 use Rattle.meaning.specs.declared.Refusal.{Refusal as Refusing}
-use Rattle.meaning.specs.declared.Formed.TheVariants as formed
-use Rattle.meaning.specs.declared.Answer.TheVariants as answer
-use Rattle.meaning.specs.declared.SlotFor.TheVariants as slot
-use Rattle.meaning.specs.declared.Reported.TheVariants as report
-use Rattle.meaning.specs.declared.Replayed.TheVariants as replay
-use Rattle.meaning.specs.declared.Curved.TheVariants as curve
-use Rattle.meaning.specs.declared.ReadText.TheVariants as reads
-use Rattle.meaning.specs.declared.Written.TheVariants as write
-use Rattle.std.specs.Prelude.{if◌then◌else◌}
+use Rattle.std.specs.Prelude.{Err, if◌then◌else◌}
 use Rattle.meaning.specs.Neighbours.{NONE, has}
 use Rattle.meaning.specs.Layout.{Settings, four, longest, most_capacity, length_of, is_list, least_capacity, first_fits, second_fits, settings_refusal}
 use Rattle.meaning.specs.Mem.{decode, policy_of}
@@ -177,29 +169,29 @@ still_wrote p c f g t b = or (ltb longest (length t)) (λ _. denies 7 (omega ari
 unchanged : {A L : Type 0} {o : Outcome A L} {lent l : L} (r : Refusal) → Still o lent → refused r ≡ o.said → l ≡ o.left → l ≡ lent
 unchanged r S e q = q ∙ S.stays r e
 
-pub form_refused : {p c f s : ℕ} {r : Refusing} {ws ws' : List ℕ} → FormedAs p c f s ws (formed.Refused r) ws' → ws' ≡ ws
-form_refused {p} {c} {f} {s} {ws = ws} x = unchanged _ (still_formed (four p c f s) ws) x.answer x.memory
+pub form_refused : {s : Settings} {r : Refusing} {ws ws' : List ℕ} → FormedAs s ws (Err r) ws' → ws' ≡ ws
+form_refused {s} {ws = ws} x = unchanged _ (still_formed s ws) x.answer x.memory
 
-pub request_refused : {ws ws' : List ℕ} {p : ℕ} {r : Refusing} → Requested ws p (answer.Refused r) ws' → ws' ≡ ws
+pub request_refused : {ws ws' : List ℕ} {p : ℕ} {r : Refusing} → Requested ws p (Err r) ws' → ws' ≡ ws
 request_refused {ws} {p = p} x = unchanged _ (still_requested ws p) x.answer x.memory
 
-pub slot_refused : {ws ws' : List ℕ} {p : ℕ} {r : Refusing} → SlotGiven ws p (slot.Refused r) ws' → ws' ≡ ws
+pub slot_refused : {ws ws' : List ℕ} {p : ℕ} {r : Refusing} → SlotGiven ws p (Err r) ws' → ws' ≡ ws
 slot_refused {ws} {p = p} x = unchanged _ (still_slot ws p) x.answer x.memory
 
-pub report_refused : {ws b b' : List ℕ} {j : ℕ} {r : Refusing} → ReportedAs ws j b (report.Refused r) b' → b' ≡ b
+pub report_refused : {ws b b' : List ℕ} {j : ℕ} {r : Refusing} → ReportedAs ws j b (Err r) b' → b' ≡ b
 report_refused {ws} {b} {j = j} x = unchanged _ (still_reported ws j b) x.answer x.memory
 
-pub replay_refused : {ws t ws' : List ℕ} {r : Refusing} → ReplayedAs ws t (replay.Refused r) ws' → ws' ≡ ws
+pub replay_refused : {ws t ws' : List ℕ} {r : Refusing} → ReplayedAs ws t (Err r) ws' → ws' ≡ ws
 replay_refused {ws} {t} x = unchanged _ (still_replayed ws t) x.answer x.memory
 
-pub curve_refused : {m : ℕ} {t b w b' w' : List ℕ} {r : Refusing} → CurvedAs m t b w (curve.Refused r) b' w' → both b' w' ≡ both b w
+pub curve_refused : {m : ℕ} {t b w b' w' : List ℕ} {r : Refusing} → CurvedAs m t b w (Err r) b' w' → both b' w' ≡ both b w
 curve_refused {m} {t} {b} {w} x = unchanged _ (still_curved m t b w) x.answer x.memory
 
-pub read_refused : {text t t' : List ℕ} {r : Refusing} → ReadAs text t (reads.Refused r) t' → t' ≡ t
+pub read_refused : {text t t' : List ℕ} {r : Refusing} → ReadAs text t (Err r) t' → t' ≡ t
 read_refused {text} {t} x = unchanged _ (still_read text t) x.answer x.memory
 
-pub write_refused : {p c f g : ℕ} {t b b' : List ℕ} {r : Refusing} → WrittenAs p c f g t b (write.Refused r) b' → b' ≡ b
-write_refused {p} {c} {f} {g} {t} {b} x = unchanged _ (still_wrote p c f g t b) x.answer x.memory
+pub write_refused : {s : Settings} {t b b' : List ℕ} {r : Refusing} → WrittenAs s t b (Err r) b' → b' ≡ b
+write_refused {s} {t} {b} x = unchanged _ (still_wrote s.policy s.C s.first s.second t b) x.answer x.memory
 
 -- ── The C functions ──
 

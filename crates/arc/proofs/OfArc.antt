@@ -9,7 +9,7 @@ use lib.Dec.{eqb, ltb}
 use borrow.Author.Tests.{eq-eqb, ne_eqb, lt-ltb, le-ltb, le-leb, lt-leb, leb-true}
 use Rattle.meaning.specs.declared.Answer.{Answer}
 use Rattle.index.specs.declared.Found.{Found}
-use Rattle.index.specs.declared.Found.TheVariants.{At, Nothing}
+use Rattle.std.specs.Prelude.{Option, Some}
 use Rattle.meaning.specs.Base.{one_if}
 use Rattle.meaning.specs.Neighbours.{NONE}
 use Rattle.meaning.specs.Layout.{is_held, unit, cell_at, list_col}
@@ -17,6 +17,7 @@ use Rattle.meaning.specs.Mem.{Mem, word, held, full, size, back, list_on, with_w
 use Rattle.meaning.specs.Room.{as_it_is}
 use Rattle.meaning.specs.Arc.{step_of, most_target, grown, shrunk, from_t1, replace, arc_b1, arc_b2, arc_full_row, arc_under, arc}
 use Rattle.invariants.specs.Places.{top, Repr, Ready, Turns, Says, Any}
+use Rattle.invariants.specs.Proper.{Indexed}
 use Rattle.invariants.specs.Assumed.{Arc}
 use Rattle.invariants.proofs.Lists.{split}
 use Rattle.invariants.proofs.Numbers.{by_test}
@@ -29,11 +30,13 @@ use Rattle.theorems.proofs.Going.{held1, held2, not3, not4}
 use Rattle.lists.specs.Asked.{OnList}
 use Rattle.lists.specs.Asked as asked
 use Rattle.lists.specs.Told.{Gives, GivesOf, Answers}
-use Rattle.rooms.specs.declared.Freed.{Freed}
-use Rattle.rooms.specs.Rooms.{Serves, Frees, asking, filling, entering, returning, hit_front, back_out, back_to, back_gone, Lined, HasBack, Then}
-use Rattle.arc.specs.Inner.{replacing, from_first, Replaces, NotEmpty, Ghost, ArcMiss, Row, Under, shortened}
-use Rattle.rooms.proofs.Rooming.{frees_as, serves_as, turn_ready, turn_frees, turn_serves}
-use Rattle.rooms.proofs.Spaces.{lined, out_ghost, space_made, found_list, hits, found_nothing}
+use Rattle.rooms.specs.declared.freed.Freed.{Freed}
+use Rattle.rooms.specs.Rooms.{Serves, Frees, asking, filling, entering, returning, hit_front, back_out, back_to, back_gone, Lined, HasBack, Then, Missing}
+use Rattle.arc.specs.declared.Ghosts.{Ghosts}
+use Rattle.arc.specs.declared.Ghosts.TheVariants.{B1, B2}
+use Rattle.arc.specs.Inner.{list_of, is_b2, moved, arc_in, replacing, from_first, Replaces, NotEmpty, Ghost, Row, Under, shortened}
+use Rattle.rooms.proofs.Rooming.{ready_as, frees_as, serves_as, turn_ready, turn_frees, turn_serves}
+use Rattle.rooms.proofs.Spaces.{lined, out_ghost, space_made, found_list, hits}
 
 -- ── The target ──
 
@@ -47,34 +50,30 @@ pub step_more : (mine other : ℕ) → mine < other → other ≤ 1024 → (1 * 
 unfolding step_of
 step_more mine other h k = (sym (simp (lt-leb other mine h)), omega (arith, div-le_self (1 * other) mine))
 
--- the size that was read is not 0
-pub some_size : {ws : List ℕ} {k n : ℕ} → Says ws (GivesOf size k n) → Ready ws (NotEmpty k) → 1 ≤ n
-some_size s o = omega (arith, (s.of o.mem o.repr).is, o.meets.some)
-
 -- the target is small enough for a sum
 pub target_fits : {ws : List ℕ} {k p : ℕ} → p ≡ word6_in ws → Ready ws (NotEmpty k) → p ≤ 1024
 target_fits e o = let A = o.meets.arc in omega (arith, e ∙ o.repr.holds.at (top 6) (omega arith), A.target, A.all, o.repr.fine.few)
 
 module _ {ws ws' : List ℕ} {p b1 b2 d q : ℕ} (ep : p ≡ word6_in ws) (s1 : Says ws (GivesOf size 3 b1)) (s2 : Says ws (GivesOf size 4 b2)) (t : Turns ws ws' Any (with_word6 q)) where
   -- the code's new target is that of a page in B1
-  pub grow_turns : {c : ℕ} → c ≡ capacity_in ws → d ≡ step_of b1 b2 → q ≡ min (1 * c) (p + d) → Turns ws ws' (NotEmpty 3) grown
+  pub grow_turns : {c : ℕ} {g : Ghosts} → c ≡ capacity_in ws → g ≡ B1 → d ≡ step_of b1 b2 → q ≡ min (1 * c) (p + d) → Turns ws ws' (NotEmpty (list_of g)) (moved g)
   unfolding grown
-  grow_turns ec ed eq = record {
+  grow_turns ec y ed eq = rw y (record {
     to = λ m R o.
         subst (λ (x : ℕ). Repr ws' (with_word6 x m))
         (eq ∙ ap₂ (λ (x y : ℕ). min (1 * x) y) (ec ∙ R.holds.at (top 1) (omega arith)) (ap₂ (λ (x y : ℕ). x + y) (ep ∙ R.holds.at (top 6) (omega arith)) (ed ∙ ap₂ step_of (s1.of m R).is (s2.of m R).is)))
         (t.to m R tt);
-  }
+  })
 
   -- the code's new target is that of a page in B2
-  pub shrink_turns : d ≡ step_of b2 b1 → q ≡ p - d → Turns ws ws' (NotEmpty 4) shrunk
+  pub shrink_turns : {g : Ghosts} → g ≡ B2 → d ≡ step_of b2 b1 → q ≡ p - d → Turns ws ws' (NotEmpty (list_of g)) (moved g)
   unfolding shrunk
-  shrink_turns ed eq = record {
+  shrink_turns y ed eq = rw y (record {
     to = λ m R o.
         subst (λ (x : ℕ). Repr ws' (with_word6 x m))
         (eq ∙ ap₂ (λ (x y : ℕ). x - y) (ep ∙ R.holds.at (top 6) (omega arith)) (ed ∙ ap₂ step_of (s2.of m R).is (s1.of m R).is))
         (t.to m R tt);
-  }
+  })
 
 -- ── Replace ──
 
@@ -120,7 +119,7 @@ module _ {ws : List ℕ} (b : Bool) {d : Bool} (s : Says ws (Gives (from_first b
 
   -- where T1's back is put out there is one
   pub replace_first : d ≡ true → Ready ws (Replaces b) → Ready ws (HasBack 1)
-  replace_first z o = record { mem = o.mem; repr = o.repr; meets = takes z o.mem o.repr o.meets }
+  replace_first z = ready_as (takes z)
 
   -- that is the room of replace
   pub replaced_first : {ws' : List ℕ} {f : Freed} → d ≡ true → Frees ws ws' (HasBack 1) (back_to 1 3) f → Frees ws ws' (Replaces b) (replacing b) f
@@ -132,7 +131,7 @@ module _ {ws : List ℕ} (b : Bool) {d : Bool} (s : Says ws (Gives (from_first b
 
   -- where T2's back is put out there is one
   pub replace_second : d ≡ false → Ready ws (Replaces b) → Ready ws (HasBack 2)
-  replace_second z o = record { mem = o.mem; repr = o.repr; meets = leaves z o.mem o.repr o.meets }
+  replace_second z = ready_as (leaves z)
 
   -- that is the room of replace, too
   pub replaced_second : {ws' : List ℕ} {f : Freed} → d ≡ false → Frees ws ws' (HasBack 2) (back_to 2 4) f → Frees ws ws' (Replaces b) (replacing b) f
@@ -184,32 +183,31 @@ module _ (m : Mem) (e : ℕ) where
       (λ y _. omega (arith, y, f, A.some))
       (λ y _. omega (arith, first_under (with_word6 v m) true t (omega (arith, y, same_size m v 1)), same_size m v 1, same_target m v, d, f, A.target, A.some)))
 
--- B1 has the page, so it is not empty
-pub b1_some : {ws : List ℕ} {e : ℕ} → Ready ws (Ghost 3 e) → Ready ws (NotEmpty 3)
-b1_some {e = e} o = record { mem = o.mem; repr = o.repr; meets = some_b1 o.mem e o.meets }
+some_in : (g : Ghosts) (m : Mem) (e : ℕ) → Ghost (list_of g) e m → NotEmpty (list_of g) m
+some_in B1 m e o = some_b1 m e o
+some_in B2 m e o = some_b2 m e o
 
--- B2 has the page, so it is not empty
-pub b2_some : {ws : List ℕ} {e : ℕ} → Ready ws (Ghost 4 e) → Ready ws (NotEmpty 4)
-b2_some {e = e} o = record { mem = o.mem; repr = o.repr; meets = some_b2 o.mem e o.meets }
+comes_in : (g : Ghosts) (m : Mem) (e : ℕ) → Ghost (list_of g) e m → Then (Replaces (is_b2 g)) (replacing (is_b2 g)) (OnList e) (moved g m)
+comes_in B1 m e o = comes_b1 m e o
+comes_in B2 m e o = comes_b2 m e o
 
-module _ {ws ws₁ : List ℕ} {e : ℕ} where
-  -- after p grew, replace can make room, and the page is still in B1
-  pub b1_ready : Turns ws ws₁ (NotEmpty 3) grown → Ready ws (Ghost 3 e) → Ready ws₁ (Then (Replaces false) (replacing false) (OnList e))
-  b1_ready t o = turn_ready t (λ m R g. (some_b1 m e g, comes_b1 m e g)) o
+served_in : (g : Ghosts) (m : Mem) (e : ℕ) → filling (replacing (is_b2 g)) (returning e 2) (moved g m) ≡ asking (arc_in g) e m
+unfolding filling replacing returning asking arc_b1 arc_b2
+served_in B1 m e = refl
+served_in B2 m e = refl
 
-  -- so it is served as a page in B1
-  pub b1_serves : {ws₂ : List ℕ} {r : Answer} → Turns ws ws₁ (NotEmpty 3) grown → Serves ws₁ ws₂ (Then (Replaces false) (replacing false) (OnList e)) (filling (replacing false) (returning e 2)) r → Serves ws ws₂ (Ghost 3 e) (asking arc_b1 e) r
-  unfolding filling replacing returning asking arc_b1
-  b1_serves t S = turn_serves t S (λ m R g. (some_b1 m e g, comes_b1 m e g, refl))
+-- a ghost list that has the page is not empty
+pub ghost_some : {ws : List ℕ} {e : ℕ} (g : Ghosts) → Ready ws (Ghost (list_of g) e) → Ready ws (NotEmpty (list_of g))
+ghost_some {e = e} g = ready_as (λ m R o. some_in g m e o)
 
-  -- after p shrank, replace can make room, and the page is still in B2
-  pub b2_ready : Turns ws ws₁ (NotEmpty 4) shrunk → Ready ws (Ghost 4 e) → Ready ws₁ (Then (Replaces true) (replacing true) (OnList e))
-  b2_ready t o = turn_ready t (λ m R g. (some_b2 m e g, comes_b2 m e g)) o
+module _ {ws ws₁ : List ℕ} {e : ℕ} {b : Bool} (g : Ghosts) (z : b ≡ is_b2 g) (t : Turns ws ws₁ (NotEmpty (list_of g)) (moved g)) where
+  -- after p moved, replace can make room, and the page is still on its ghost list
+  pub ghost_ready : Ready ws (Ghost (list_of g) e) → Ready ws₁ (Then (Replaces b) (replacing b) (OnList e))
+  ghost_ready o = rw z (turn_ready t (λ m R x. (some_in g m e x, comes_in g m e x)) o)
 
-  -- so it is served as a page in B2
-  pub b2_serves : {ws₂ : List ℕ} {r : Answer} → Turns ws ws₁ (NotEmpty 4) shrunk → Serves ws₁ ws₂ (Then (Replaces true) (replacing true) (OnList e)) (filling (replacing true) (returning e 2)) r → Serves ws ws₂ (Ghost 4 e) (asking arc_b2 e) r
-  unfolding filling replacing returning asking arc_b2
-  b2_serves t S = turn_serves t S (λ m R g. (some_b2 m e g, comes_b2 m e g, refl))
+  -- so it is served as a page of that list
+  pub ghost_serves : {ws₂ : List ℕ} {r : Answer} → Serves ws₁ ws₂ (Then (Replaces b) (replacing b) (OnList e)) (filling (replacing b) (returning e 2)) r → Serves ws ws₂ (Ghost (list_of g) e) (asking (arc_in g) e) r
+  ghost_serves S = turn_serves t (rw z at S) (λ m R x. (some_in g m e x, comes_in g m e x, served_in g m e))
 
 -- ── Room for a new page: T1+B1 = C ──
 
@@ -242,7 +240,7 @@ module _ {ws : List ℕ} {t1 c : ℕ} (s : Says ws (GivesOf size 1 t1)) (ec : c 
 
   -- B1 has a back, if T1 is under C
   pub row_third : t1 < c → Ready ws Row → Ready ws (HasBack 3)
-  row_third h o = record { mem = o.mem; repr = o.repr; meets = third h o.mem o.repr o.meets }
+  row_third h = ready_as (third h)
 
   module _ {ws₁ : List ℕ} (h : t1 < c) (t : Turns ws ws₁ (HasBack 3) (back_gone 3)) where
     -- after it is gone replace can make room
@@ -260,7 +258,7 @@ module _ {ws : List ℕ} {t1 c : ℕ} (s : Says ws (GivesOf size 1 t1)) (ec : c 
 
   -- T1 has a back, if T1 is C
   pub row_first : c ≤ t1 → Ready ws Row → Ready ws (HasBack 1)
-  row_first h o = record { mem = o.mem; repr = o.repr; meets = leads h o.mem o.repr o.meets }
+  row_first h = ready_as (leads h)
 
   -- and its back put out is the room
   pub row_out : {ws' : List ℕ} {f : Freed} → c ≤ t1 → Frees ws ws' (HasBack 1) (back_out 1) f → Frees ws ws' Row arc_full_row f
@@ -308,7 +306,7 @@ module _ {ws : List ℕ} {c n1 n2 n3 n4 : ℕ} (ec : c ≡ capacity_in ws) (s1 :
 
     -- B2 has a back, if all four total 2C
     pub shorten_back : Ready ws Under → Ready ws (HasBack 4)
-    shorten_back o = record { mem = o.mem; repr = o.repr; meets = fourth o.mem o.repr o.meets }
+    shorten_back = ready_as fourth
 
     -- and its back is removed
     pub shorten_gone : {ws' : List ℕ} → Turns ws ws' (HasBack 4) (back_gone 4) → Turns ws ws' Under shortened
@@ -329,97 +327,87 @@ module _ {ws ws₁ : List ℕ} {b : Bool} (s : Says ws (Gives full b)) (t : Turn
   unfolding replacing shortened arc_under
   under_swap z F = turn_frees t F (λ m R u. let k = sym (s.of m R).is ∙ z in (u, under_left m u k, simp k))
 
-  -- where fewer are held the directory is still one
-  pub under_any : Ready ws Under → Ready ws₁ Any
-  under_any o = turn_ready t (λ m R u. (u, tt)) o
-
-  -- and there is room as it is
+  -- where fewer are held there is room as it is
   pub under_none : {ws₂ : List ℕ} {f : Freed} → b ≡ false → Frees ws₁ ws₂ Any as_it_is f → Frees ws ws₂ Under arc_under f
   unfolding shortened arc_under
   under_none z F = turn_frees t F (λ m R u. (u, tt, simp (sym (s.of m R).is ∙ z)))
 
 -- ── A page on none of the lists ──
 
-module _ {ws : List ℕ} {p c n1 n3 : ℕ} (hp : p < NONE) (ec : c ≡ capacity_in ws) (s1 : Says ws (GivesOf size 1 n1)) (s3 : Says ws (GivesOf size 3 n3)) where
+module _ {ws : List ℕ} {c n1 n3 : ℕ} (ec : c ≡ capacity_in ws) (s1 : Says ws (GivesOf size 1 n1)) (s3 : Says ws (GivesOf size 3 n3)) where
   sizes : (m : Mem) → Repr ws m → (n1 ≡ size m 1) × (n3 ≡ size m 3) × (c ≡ capacity_of m)
   sizes m R = ((s1.of m R).is, (s3.of m R).is, ec ∙ R.holds.at (top 1) (omega arith))
 
-  nowhere : (m : Mem) → ArcMiss p m → list_on m p ≡ 0
-  nowhere m o = list_none m o.arc.proper.seated.indexed p hp o.absent
+  module _ {p : ℕ} where
+    nowhere : (m : Mem) → Missing Arc p m → list_on m p ≡ 0
+    nowhere m o = list_none m o.kind.proper.seated.indexed p o.real o.absent
 
-  rows : n1 + n3 ≡ c → (m : Mem) → Repr ws m → ArcMiss p m → Then Row arc_full_row (asked.Admits p) m
-  rows z m R o = let k : Row m = record { arc = o.arc; row = omega (arith, sizes m R) } in record { asks = k; leaves = space_made (row_room m o.arc k.row) p hp o.absent (λ L. omega (arith, L, o.arc.all)) }
+    rows : n1 + n3 ≡ c → (m : Mem) → Repr ws m → Missing Arc p m → Then Row arc_full_row (asked.Admits p) m
+    rows z m R o = let k : Row m = record { arc = o.kind; row = omega (arith, sizes m R) } in record { asks = k; leaves = space_made (row_room m o.kind k.row) p o.real o.absent (λ L. omega (arith, L, o.kind.all)) }
 
-  -- T1+B1 = C, and room can be made
-  pub new_row : n1 + n3 ≡ c → Ready ws (ArcMiss p) → Ready ws (Then Row arc_full_row (asked.Admits p))
-  new_row z o = record { mem = o.mem; repr = o.repr; meets = rows z o.mem o.repr o.meets }
+    -- T1+B1 = C, and room can be made
+    pub new_row : n1 + n3 ≡ c → Ready ws (Missing Arc p) → Ready ws (Then Row arc_full_row (asked.Admits p))
+    new_row z = ready_as (rows z)
 
-  -- so a new page is served
-  pub new_rowed : {ws' : List ℕ} {r : Answer} → n1 + n3 ≡ c → Serves ws ws' (Then Row arc_full_row (asked.Admits p)) (filling arc_full_row (entering p 1)) r → Serves ws ws' (ArcMiss p) (asking arc p) r
-  unfolding asking filling entering arc
-  new_rowed z S = serves_as S (λ m R o.
-      let l = nowhere m o in
-      (rows z m R o, simp (ap is_held l ∙ free_held, ne_eqb (list_on m p) 3 (λ y. omega (arith, y, l)), ne_eqb (list_on m p) 4 (λ y. omega (arith, y, l)), eq-eqb (size m 1 + size m 3) (capacity_of m) (omega (arith, sizes m R)))))
+    -- so a new page is served
+    pub new_rowed : {ws' : List ℕ} {r : Answer} → n1 + n3 ≡ c → Serves ws ws' (Then Row arc_full_row (asked.Admits p)) (filling arc_full_row (entering p 1)) r → Serves ws ws' (Missing Arc p) (asking arc p) r
+    unfolding asking filling entering arc
+    new_rowed z S = serves_as S (λ m R o.
+        let l = nowhere m o in
+        (rows z m R o, simp (l, free_held, eq-eqb (size m 1 + size m 3) (capacity_of m) (omega (arith, sizes m R)))))
 
-  unders : (n1 + n3 ≡ c → ⊥) → (m : Mem) → Repr ws m → ArcMiss p m → Then Under arc_under (asked.Admits p) m
-  unders z m R o =
-      let d : size m 1 + size m 3 ≡ capacity_of m → ⊥ = λ y. z (omega (arith, y, sizes m R)) in
-      let k : Under m = record { arc = o.arc; under = omega (arith, d, o.arc.left) } in
-      record { asks = k; leaves = space_made (under_room m o.arc k.under) p hp o.absent (λ L. omega (arith, L, o.arc.all)) }
+    unders : (n1 + n3 ≡ c → ⊥) → (m : Mem) → Repr ws m → Missing Arc p m → Then Under arc_under (asked.Admits p) m
+    unders z m R o =
+        let d : size m 1 + size m 3 ≡ capacity_of m → ⊥ = λ y. z (omega (arith, y, sizes m R)) in
+        let k : Under m = record { arc = o.kind; under = omega (arith, d, o.kind.left) } in
+        record { asks = k; leaves = space_made (under_room m o.kind k.under) p o.real o.absent (λ L. omega (arith, L, o.kind.all)) }
 
-  -- T1+B1 is under C, and room can be made
-  pub new_under : (n1 + n3 ≡ c → ⊥) → Ready ws (ArcMiss p) → Ready ws (Then Under arc_under (asked.Admits p))
-  new_under z o = record { mem = o.mem; repr = o.repr; meets = unders z o.mem o.repr o.meets }
+    -- T1+B1 is under C, and room can be made
+    pub new_under : (n1 + n3 ≡ c → ⊥) → Ready ws (Missing Arc p) → Ready ws (Then Under arc_under (asked.Admits p))
+    new_under z = ready_as (unders z)
 
-  -- so a new page is served, too
-  pub new_undered : {ws' : List ℕ} {r : Answer} → (n1 + n3 ≡ c → ⊥) → Serves ws ws' (Then Under arc_under (asked.Admits p)) (filling arc_under (entering p 1)) r → Serves ws ws' (ArcMiss p) (asking arc p) r
-  unfolding asking filling entering arc
-  new_undered z S = serves_as S (λ m R o.
-      let l = nowhere m o in
-      (unders z m R o, simp (ap is_held l ∙ free_held, ne_eqb (list_on m p) 3 (λ y. omega (arith, y, l)), ne_eqb (list_on m p) 4 (λ y. omega (arith, y, l)), ne_eqb (size m 1 + size m 3) (capacity_of m) (λ y. z (omega (arith, y, sizes m R))))))
+    -- so a new page is served, too
+    pub new_undered : {ws' : List ℕ} {r : Answer} → (n1 + n3 ≡ c → ⊥) → Serves ws ws' (Then Under arc_under (asked.Admits p)) (filling arc_under (entering p 1)) r → Serves ws ws' (Missing Arc p) (asking arc p) r
+    unfolding asking filling entering arc
+    new_undered z S = serves_as S (λ m R o.
+        let l = nowhere m o in
+        (unders z m R o, simp (l, free_held, ne_eqb (size m 1 + size m 3) (capacity_of m) (λ y. z (omega (arith, y, sizes m R))))))
 
 -- ── The step ──
 
--- an ARC directory has lists
+-- an ARC directory has its pages in the index
+pub arc_indexed : (m : Mem) → Arc m → Indexed m
+arc_indexed m L = L.proper.seated.indexed
+
+-- and has lists
 pub arc_lined : (m : Mem) → Arc m → Lined m
 arc_lined m L = lined L.proper
 
-module _ {ws : List ℕ} {p : ℕ} {f : Found} (hp : p < NONE) (a : Says ws (Answers p f)) where
-  misses : f ≡ Nothing → (m : Mem) → Repr ws m → Arc m → ArcMiss p m
-  misses z m R L = record { arc = L; absent = (found_nothing a z hp m R L.proper.seated.indexed).absent }
-
-  -- a page that was not found is on none of the lists
-  pub arc_missing : f ≡ Nothing → Ready ws Arc → Ready ws (ArcMiss p)
-  arc_missing z o = record { mem = o.mem; repr = o.repr; meets = misses z o.mem o.repr o.meets }
-
-  -- and is served as such
-  pub arc_missed : {ws' : List ℕ} {r : Answer} → f ≡ Nothing → Serves ws ws' (ArcMiss p) (asking arc p) r → Serves ws ws' Arc (asking arc p) r
-  arc_missed z S = serves_as S (λ m R L. (misses z m R L, refl))
-
+module _ {ws : List ℕ} {p : ℕ} {f : Option Found} (hp : p < NONE) (a : Says ws (Answers p f)) where
   -- a page on list j
-  module _ {e b j : ℕ} (z : f ≡ At e b) (ej : j ≡ word ws (cell_at e list_col)) where
+  module _ {found : Found} {j : ℕ} (z : f ≡ Some found) (ej : j ≡ word ws (cell_at found.entry list_col)) where
     -- a page that was found on list k
-    pub arc_ghost : (k : ℕ) → j ≡ k → Ready ws Arc → Ready ws (Ghost k e)
-    arc_ghost k d o = record { mem = o.mem; repr = o.repr; meets = record { arc = o.meets; on = found_list a z ej o.mem o.repr ∙ d } }
+    pub arc_ghost : (k : ℕ) → j ≡ k → Ready ws Arc → Ready ws (Ghost k found.entry)
+    arc_ghost k d = ready_as (λ m R o. record { arc = o; on = found_list a z ej m R ∙ d })
 
     -- a page in B1 is served
-    pub arc_b1_lem : {ws' : List ℕ} {r : Answer} → j ≡ 3 → Serves ws ws' (Ghost 3 e) (asking arc_b1 e) r → Serves ws ws' Arc (asking arc p) r
+    pub arc_b1_lem : {ws' : List ℕ} {r : Answer} → j ≡ 3 → Serves ws ws' (Ghost 3 found.entry) (asking arc_b1 found.entry) r → Serves ws ws' Arc (asking arc p) r
     unfolding asking arc
     arc_b1_lem d S = serves_as S (λ m R L.
         let k = hits a z hp m R (lined L.proper) in let l = k.list ∙ found_list a z ej m R ∙ d in
-        (record { arc = L; on = found_list a z ej m R ∙ d }, simp (k.entry, ap is_held l ∙ not3, eq-eqb (list_on m p) 3 l)))
+        (record { arc = L; on = found_list a z ej m R ∙ d }, simp (k.entry, l, not3)))
 
     -- a page in B2 is served
-    pub arc_b2_lem : {ws' : List ℕ} {r : Answer} → j ≡ 4 → Serves ws ws' (Ghost 4 e) (asking arc_b2 e) r → Serves ws ws' Arc (asking arc p) r
+    pub arc_b2_lem : {ws' : List ℕ} {r : Answer} → j ≡ 4 → Serves ws ws' (Ghost 4 found.entry) (asking arc_b2 found.entry) r → Serves ws ws' Arc (asking arc p) r
     unfolding asking arc
     arc_b2_lem d S = serves_as S (λ m R L.
         let k = hits a z hp m R (lined L.proper) in let l = k.list ∙ found_list a z ej m R ∙ d in
-        (record { arc = L; on = found_list a z ej m R ∙ d }, simp (k.entry, ap is_held l ∙ not4, ne_eqb (list_on m p) 3 (λ y. omega (arith, y, l)), eq-eqb (list_on m p) 4 l)))
+        (record { arc = L; on = found_list a z ej m R ∙ d }, simp (k.entry, l, not4)))
 
     -- a page in T1 or T2 is served
-    pub arc_hit : {ws' : List ℕ} {r : Answer} → (j ≡ 3 → ⊥) → (j ≡ 4 → ⊥) → Serves ws ws' (OnList e) (hit_front e 2) r → Serves ws ws' Arc (asking arc p) r
+    pub arc_hit : {ws' : List ℕ} {r : Answer} → (j ≡ 3 → ⊥) → (j ≡ 4 → ⊥) → Serves ws ws' (OnList found.entry) (hit_front found.entry 2) r → Serves ws ws' Arc (asking arc p) r
     unfolding asking hit_front arc
     arc_hit d3 d4 S = serves_as S (λ m R L.
         let k = hits a z hp m R (lined L.proper) in
-        let h : is_held (m.lists e) ≡ true = list_cases m L.proper.seated.indexed L.proper.ordered e k.used (λ y _. ap is_held y ∙ held1) (λ y _. ap is_held y ∙ held2) (λ y _. absurd (d3 (sym (found_list a z ej m R) ∙ y))) (λ y _. absurd (d4 (sym (found_list a z ej m R) ∙ y))) in
+        let h : is_held (m.lists found.entry) ≡ true = list_cases m L.proper.seated.indexed L.proper.ordered found.entry k.used (λ y _. ap is_held y ∙ held1) (λ y _. ap is_held y ∙ held2) (λ y _. absurd (d3 (sym (found_list a z ej m R) ∙ y))) (λ y _. absurd (d4 (sym (found_list a z ej m R) ∙ y))) in
         (k.on, simp (k.entry, ap is_held k.list ∙ h)))

@@ -1,10 +1,32 @@
 -- What ARC's inner steps ask of a directory, and what they promise.
-use Rattle.std.specs.Prelude.{ℕ, ◌+◌, ◌*◌, ◌≤◌, ◌<◌, ◌≡◌, Bool, false, eqb, if◌then◌else◌}
+use Rattle.std.specs.Prelude.{ℕ, ◌+◌, ◌*◌, ◌≤◌, ◌<◌, ◌≡◌, Bool, true, false, eqb, if◌then◌else◌}
 use Rattle.meaning.specs.Mem.{Mem, size, back, clear, capacity_of}
-use Rattle.meaning.specs.Room.{Room}
-use Rattle.meaning.specs.Arc.{from_t1, replace}
+use Rattle.meaning.specs.Room.{Done, Room}
+use Rattle.meaning.specs.Arc.{grown, shrunk, from_t1, replace, arc_b1, arc_b2}
 use Rattle.invariants.specs.Assumed.{Arc}
 use Rattle.rooms.specs.Rooms.{Lined}
+use Rattle.arc.specs.declared.Ghosts.{Ghosts}
+use Rattle.arc.specs.declared.Ghosts.TheVariants.{B1, B2}
+
+-- A ghost list: its number.
+abbrev pub list_of : Ghosts → ℕ
+list_of B1 = 3
+list_of B2 = 4
+
+-- Whether it is B2.
+abbrev pub is_b2 : Ghosts → Bool
+is_b2 B1 = false
+is_b2 B2 = true
+
+-- The directory once p moved for a page in it.
+abbrev pub moved : Ghosts → Mem → Mem
+moved B1 = grown
+moved B2 = shrunk
+
+-- A request for a page in it.
+abbrev pub arc_in : Ghosts → Mem → ℕ → Done
+arc_in B1 = arc_b1
+arc_in B2 = arc_b2
 
 -- Replace, and whether the page asked for is in B2.
 unfoldable pub replacing : Bool → Mem → Room
@@ -28,11 +50,6 @@ pub record NotEmpty (k : ℕ) (m : Mem) : Type 0 where
 pub record Ghost (k e : ℕ) (m : Mem) : Type 0 where
   pub arc : Arc m
   pub on : m.lists e ≡ k
-
--- An ARC directory without the page p.
-pub record ArcMiss (p : ℕ) (m : Mem) : Type 0 where
-  pub arc : Arc m
-  pub absent : (i : ℕ) → m.pages i ≡ p → ⊥
 
 -- T1+B1 = C.
 pub record Row (m : Mem) : Type 0 where

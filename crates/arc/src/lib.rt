@@ -1,40 +1,37 @@
 // ARC: list 1 is T1, list 2 T2, list 3 B1, list 4 B2 (3 and 4 ghosts); word 6 is the target p.
 #![tactic(auto)]
 
-ghost use Rattle.std.specs.Prelude.{◌≡◌, ◌+◌, ◌-◌, ◌<◌, ◌≤◌, min};
-ghost use Rattle.meaning.specs.Arc.{step_of, grown, shrunk, arc_b1, arc_b2, arc_full_row, arc_under, arc};
+ghost use Rattle.std.specs.Prelude.{◌≡◌, ◌<◌, ◌≤◌};
+ghost use Rattle.meaning.specs.Arc.{step_of, arc_full_row, arc_under, arc};
 ghost use Rattle.invariants.specs.Places.{Ready, Turns, Says, Any};
 ghost use Rattle.invariants.specs.Assumed.{Arc};
-ghost use Rattle.lists.specs.Asked.{OnList, Admits};
 ghost use Rattle.lists.specs.Told.{Gives};
-ghost use Rattle.rooms.specs.Rooms.{Serves, Frees, asking, filling, entering, returning, Then};
-ghost use Rattle.arc.specs.Inner.{replacing, from_first, Replaces, NotEmpty, Ghost, ArcMiss, Row, Under, shortened};
+ghost use Rattle.rooms.specs.Rooms.{Serves, asking, Missing};
+ghost use Rattle.arc.specs.Inner.{list_of, is_b2, moved, arc_in, replacing, from_first, Replaces, NotEmpty, Ghost, Row, Under, shortened};
 
-use lists::Found;
 use meaning::Answer;
 use rooms::{
-    Freed, as_it_is, enters, full, hit_front, put_out_back, put_out_back_to, remove_back, returns,
+    Freed, MakesRoom, as_it_is, enter_after, full, hit_front, put_out_back, remove_back,
+    return_after,
 };
 use settings::{CAPACITY, LIST, UNIT, WORD6};
 
-// The smaller of two numbers.
-fn smaller(a: u32, b: u32) -> u32
-    ensures { result ≡ min a b }
-{
-    if a < b {
-        return a;
-    }
-    b
+// The ghost list that has the page asked for.
+#[derive(Clone, Copy)]
+enum Ghosts {
+    B1,
+    B2,
 }
 
-// p - d, but not below 0.
-fn lowered(p: u32, d: u32) -> u32
-    ensures { result ≡ p - d }
-{
-    if p < d {
-        return 0;
+impl Ghosts {
+    fn is_b2(self) -> bool
+        ensures { result ≡ is_b2 self }
+    {
+        match self {
+            Ghosts::B1 => false,
+            Ghosts::B2 => true,
+        }
     }
-    p - d
 }
 
 // How far p moves: 1 slot if the page's ghost list is at least the other, else other/mine rounded down.
@@ -48,102 +45,68 @@ fn step_of(mine: u32, other: u32) -> u32
     UNIT * other / mine
 }
 
-// In B1, p becomes the smaller of C and p + d.
-fn grow(words: &mut [u32])
-    requires { Ready words.old (NotEmpty 3) }
-    ensures { Turns words.old words.new (NotEmpty 3) grown }
+// Where p goes: in B1 to the smaller of C and p + d, in B2 to p - d, but not below 0.
+fn move_target(words: &mut [u32], ghosts: Ghosts)
+    requires { Ready words.old (NotEmpty (list_of ghosts)) }
+    ensures { Turns words.old words.new (NotEmpty (list_of ghosts)) (moved ghosts) }
 {
     let c = lists::word(words, CAPACITY);
     let p = lists::word(words, WORD6);
     let b1 = lists::size(words, 3);
     let b2 = lists::size(words, 4);
-    let d = step_of(b1, b2);
-    let q = smaller(UNIT * c, p + d);
+    let q = match ghosts {
+        Ghosts::B1 => (UNIT * c).min(p + step_of(b1, b2)),
+        Ghosts::B2 => p.saturating_sub(step_of(b2, b1)),
+    };
     lists::set_word6(words, q);
 }
 
-// In B2, p becomes p - d, but not below 0.
-fn shrink(words: &mut [u32])
-    requires { Ready words.old (NotEmpty 4) }
-    ensures { Turns words.old words.new (NotEmpty 4) shrunk }
-{
-    let p = lists::word(words, WORD6);
-    let b1 = lists::size(words, 3);
-    let b2 = lists::size(words, 4);
-    let d = step_of(b2, b1);
-    let q = lowered(p, d);
-    lists::set_word6(words, q);
+// Replace, with the new p, and whether the page asked for is in B2: a bool, no plainer as an Option of ghosts, since only B2 matters.
+#[derive(Clone, Copy)]
+struct Replace {
+    in_b2: bool,
 }
 
-// Whether T1 isn't empty and (T1 is over p, or the page asked for is in B2 and T1 = p).
-fn from_t1(words: &[u32], in_b2: bool) -> bool
-    requires { Ready words.now Any }
-    ensures { Says words.now (Gives (from_first in_b2) result) }
-{
-    let p = lists::word(words, WORD6);
-    let t1 = lists::size(words, 1);
-    if t1 == 0 {
-        return false;
+impl Replace {
+    // Whether T1 isn't empty and (T1 is over p, or the page asked for is in B2 and T1 = p).
+    fn from_t1(self, words: &[u32]) -> bool
+        requires { Ready words.now Any }
+        ensures { Says words.now (Gives (from_first self.in_b2) result) }
+    {
+        let p = lists::word(words, WORD6);
+        let t1 = lists::size(words, 1);
+        if t1 == 0 {
+            return false;
+        }
+        if p < UNIT * t1 {
+            return true;
+        }
+        self.in_b2 && UNIT * t1 == p
     }
-    if p < UNIT * t1 {
-        return true;
+}
+
+impl MakesRoom for Replace {
+    ghost asks = { λ r. Replaces r.in_b2 };
+
+    ghost makes = { λ r. replacing r.in_b2 };
+
+    // The back of T1 is put out to the front of B1; else the back of T2 to the front of B2.
+    fn make_room(self, words: &mut [u32]) -> Freed {
+        if self.from_t1(words) {
+            return put_out_back(words, 1, Some(3));
+        }
+        put_out_back(words, 2, Some(4))
     }
-    if in_b2 {
-        return UNIT * t1 == p;
-    }
-    false
 }
 
-// Replace, with the new p: the back of T1 is put out to the front of B1; else the back of T2 to the front of B2.
-fn replace(words: &mut [u32], in_b2: bool) -> Freed
-    requires { Ready words.old (Replaces in_b2) }
-    ensures { Frees words.old words.new (Replaces in_b2) (replacing in_b2) result }
+// A page of those ghosts, whose entry is e: p moves. Replace; then to the front of T2.
+fn arc_ghost(words: &mut [u32], e: u32, ghosts: Ghosts) -> Answer
+    requires { Ready words.old (Ghost (list_of ghosts) e) }
+    ensures { Serves words.old words.new (Ghost (list_of ghosts) e) (asking (arc_in ghosts) e) result }
 {
-    if from_t1(words, in_b2) {
-        return put_out_back_to(words, 1, 3);
-    }
-    put_out_back_to(words, 2, 4)
-}
-
-// Replace; then the page of entry e comes to the front of T2.
-fn return_t2(words: &mut [u32], e: u32, in_b2: bool) -> Answer
-    requires { Ready words.old (Then (Replaces in_b2) (replacing in_b2) (OnList e)) }
-    ensures { Serves words.old words.new (Then (Replaces in_b2) (replacing in_b2) (OnList e)) (filling (replacing in_b2) (returning e 2)) result }
-{
-    let f = replace(words, in_b2);
-    returns(words, e, 2, f)
-}
-
-// In B1: p grows. Replace; then to the front of T2.
-fn arc_b1(words: &mut [u32], e: u32) -> Answer
-    requires { Ready words.old (Ghost 3 e) }
-    ensures { Serves words.old words.new (Ghost 3 e) (asking arc_b1 e) result }
-{
-    grow(words);
-    return_t2(words, e, false)
-}
-
-// In B2: p shrinks. Replace; then to the front of T2.
-fn arc_b2(words: &mut [u32], e: u32) -> Answer
-    requires { Ready words.old (Ghost 4 e) }
-    ensures { Serves words.old words.new (Ghost 4 e) (asking arc_b2 e) result }
-{
-    shrink(words);
-    return_t2(words, e, true)
-}
-
-// T1+B1 = C: if T1 is under C, removes the back of B1 and replaces; else puts out and removes the back of T1, with no ghost.
-fn row_room(words: &mut [u32]) -> Freed
-    requires { Ready words.old Row }
-    ensures { Frees words.old words.new Row arc_full_row result }
-{
-    let t1 = lists::size(words, 1);
-    let c = lists::word(words, CAPACITY);
-    if t1 < c {
-        remove_back(words, 3);
-        return replace(words, false);
-    }
-    put_out_back(words, 1)
+    move_target(words, ghosts);
+    let in_b2 = ghosts.is_b2();
+    return_after(Replace { in_b2 }, words, e)
 }
 
 // If all four total 2C, removes the back of B2.
@@ -160,51 +123,58 @@ fn shorten(words: &mut [u32])
     remove_back(words, 4);
 }
 
-// T1+B1 under C: if all four total 2C, removes the back of B2; if C are held, replaces.
-fn under_room(words: &mut [u32]) -> Freed
-    requires { Ready words.old Under }
-    ensures { Frees words.old words.new Under arc_under result }
-{
-    let swaps = full(words);
-    shorten(words);
-    if swaps {
-        return replace(words, false);
+// Room for a new page where T1+B1 = C.
+#[derive(Clone, Copy)]
+struct RowRoom;
+
+impl MakesRoom for RowRoom {
+    ghost asks = { λ _. Row };
+
+    ghost makes = { λ _. arc_full_row };
+
+    // If T1 is under C, removes the back of B1 and replaces; else puts out and removes the back of T1, with no ghost.
+    fn make_room(self, words: &mut [u32]) -> Freed {
+        let t1 = lists::size(words, 1);
+        let c = lists::word(words, CAPACITY);
+        if t1 < c {
+            remove_back(words, 3);
+            return Replace { in_b2: false }.make_room(words);
+        }
+        put_out_back(words, 1, None)
     }
-    as_it_is(words)
 }
 
-// T1+B1 = C: makes room; the page enters at the front of T1.
-fn enter_row(words: &mut [u32], page: u32) -> Answer
-    requires ready { Ready words.old (Then Row arc_full_row (Admits page)) }
-    requires page_bound { page < 4294967295 }
-    ensures { Serves words.old words.new (Then Row arc_full_row (Admits page)) (filling arc_full_row (entering page 1)) result }
-{
-    let f = row_room(words);
-    enters(words, page, 1, f)
-}
+// Room for a new page where T1+B1 is under C.
+#[derive(Clone, Copy)]
+struct UnderRoom;
 
-// T1+B1 under C: makes room; the page enters at the front of T1.
-fn enter_under(words: &mut [u32], page: u32) -> Answer
-    requires ready { Ready words.old (Then Under arc_under (Admits page)) }
-    requires page_bound { page < 4294967295 }
-    ensures { Serves words.old words.new (Then Under arc_under (Admits page)) (filling arc_under (entering page 1)) result }
-{
-    let f = under_room(words);
-    enters(words, page, 1, f)
+impl MakesRoom for UnderRoom {
+    ghost asks = { λ _. Under };
+
+    ghost makes = { λ _. arc_under };
+
+    // If all four total 2C, removes the back of B2; if C are held, replaces.
+    fn make_room(self, words: &mut [u32]) -> Freed {
+        let swaps = full(words);
+        shorten(words);
+        if swaps {
+            return Replace { in_b2: false }.make_room(words);
+        }
+        as_it_is(words)
+    }
 }
 
 // A page on none of the lists.
 fn arc_new(words: &mut [u32], page: u32) -> Answer
-    requires ready { Ready words.old (ArcMiss page) }
-    requires page_bound { page < 4294967295 }
-    ensures { Serves words.old words.new (ArcMiss page) (asking arc page) result }
+    requires { Ready words.old (Missing Arc page) }
+    ensures { Serves words.old words.new (Missing Arc page) (asking arc page) result }
 {
     let c = lists::word(words, CAPACITY);
     let n = lists::size(words, 1) + lists::size(words, 3);
     if n == c {
-        return enter_row(words, page);
+        return enter_after(RowRoom, words, page);
     }
-    enter_under(words, page)
+    enter_after(UnderRoom, words, page)
 }
 
 // In T1 or T2: a hit, to the front of T2. In B1, in B2, or in none: as above.
@@ -213,16 +183,14 @@ pub fn arc_step(words: &mut [u32], page: u32) -> Answer
     requires page_bound { page < 4294967295 }
     ensures { Serves words.old words.new Arc (asking arc page) result }
 {
-    let f = lists::find(words, page);
-    let Found::At(e, _) = f else {
+    let Some(found) = lists::find(words, page) else {
         return arc_new(words, page);
     };
-    let j = lists::cell(words, e, LIST);
-    if j == 3 {
-        return arc_b1(words, e);
+    // The list is a number, as the entry's word has it; in 2Q and segmented LRU alike.
+    let j = lists::cell(words, found.entry, LIST);
+    match j {
+        3 => arc_ghost(words, found.entry, Ghosts::B1),
+        4 => arc_ghost(words, found.entry, Ghosts::B2),
+        _ => hit_front(words, found.entry, 2),
     }
-    if j == 4 {
-        return arc_b2(words, e);
-    }
-    hit_front(words, e, 2)
 }

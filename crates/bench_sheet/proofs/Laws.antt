@@ -5,18 +5,15 @@ use mathlib.Core.Bool.{not}
 use mathlib.Core.List.{List}
 use native.Mathlib.Omega.{arith}
 use lib.Dec.{ltb}
-use lib.ListN.{length, length-append}
+use lib.ListN.{length, take, length-append}
 use lib.Seq.{length-take-le}
-use Rattle.meaning.specs.declared.Reported.{Reported}
-use Rattle.meaning.specs.declared.Reported.TheVariants as report
+use Rattle.std.specs.Prelude.{Ok}
 use Rattle.meaning.specs.Layout.{is_list}
 use Rattle.meaning.specs.Mem.{decode, policy_of}
 use Rattle.meaning.specs.Rules.{sound}
 use Rattle.meaning.specs.Calls.{Refusal, plain, gave, Outcome, refuse, over, pages_on, reported}
-use Rattle.meaning.specs.Answers.{report_says}
-use Rattle.meaning.proofs.Injective.{case, not_given}
+use Rattle.meaning.proofs.Injective.{not_given}
 use Rattle.invariants.proofs.Tests.{either}
-use Rattle.io.specs.Counts.{IsPrefixLen}
 use Rattle.form_look_report.specs.Reports.{ReportedAs}
 
 -- What is counted is at most the length of the buffer left.
@@ -39,7 +36,7 @@ within ws j buffer =
     (either Within (not (is_list (policy_of (decode ws)) j)) (denies (plain 9) buffer) (either Within (ltb (length buffer) (length pages)) (denies (plain 8) buffer) (gives pages buffer)))
 
 -- The pages counted stand at the front of the buffer afterwards.
-pub fits : {ws : List ℕ} {j : ℕ} {buffer after : List ℕ} {r : Reported} {n : ℕ} → ReportedAs ws j buffer r after → r ≡ report.Count n → IsPrefixLen n after
-fits {ws} {j} {buffer} {after} {r} {n} x q =
-    let l : n ≤ length after = rw x.memory ((within ws j buffer).most n (case report_says x.answer q)) in
+pub fits : {ws : List ℕ} {j : ℕ} {buffer after : List ℕ} {n : ℕ} → ReportedAs ws j buffer (Ok n) after → (n ≤ length after) × (n ≡ length (take n after))
+fits {ws} {j} {buffer} {after} {n} x =
+    let l : n ≤ length after = rw x.memory ((within ws j buffer).most n x.answer) in
     (l, sym (length-take-le n after l))

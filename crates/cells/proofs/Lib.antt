@@ -1,3 +1,4 @@
+pub mod Trails
 pub mod Stores
 pub mod Composed
 pub mod Single

@@ -1,2 +1,4 @@
+pub mod Steps
+pub mod Trail
 pub mod Asked
 pub mod Told

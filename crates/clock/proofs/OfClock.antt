@@ -11,15 +11,15 @@ use borrow.Author.Tests.{eq-eqb, ne_eqb, leb-true, leb-false, not-true, not-fals
 use Rattle.meaning.specs.declared.Answer.{Answer}
 use Rattle.meaning.specs.declared.Answer.TheVariants.{Hit}
 use Rattle.index.specs.declared.Found.{Found}
-use Rattle.index.specs.declared.Found.TheVariants.{At, Nothing}
+use Rattle.std.specs.Prelude.{Option, Some}
 use Rattle.meaning.specs.Neighbours.{NONE}
 use Rattle.meaning.specs.Layout.{cell_at, mark_col, slot_col}
 use Rattle.meaning.specs.Mem.{Mem, word, held, full, lowest, list_on, with_word6, with_mark, with_slot, hang, seat, enter_seat, capacity_in, capacity_of, entry_count, hand_of, word6_in}
 use Rattle.meaning.specs.Room.{Done, Room, as_it_is, put_out, hit_at, load}
 use Rattle.meaning.specs.Clock.{advance, Swept, sweep, seats, clock_swap, clock_load, clock}
-use Rattle.meaning.specs.Calls.{gave}
-use Rattle.meaning.specs.Answers.{request_says}
+use Rattle.meaning.specs.Answers.{reply_of}
 use Rattle.invariants.specs.Places.{top, cell, mark, Repr, Ready, Turns, Says, Any}
+use Rattle.invariants.specs.Proper.{Indexed}
 use Rattle.invariants.specs.Assumed.{Clock}
 use Rattle.theorems.specs.Sweep.{turned, Spare}
 use Rattle.theorems.proofs.Operations.{within, paged}
@@ -28,11 +28,11 @@ use Rattle.theorems.proofs.Clock.{turned_clock, sweep_none, sweep_stops, sweep_t
 use Rattle.lists.specs.Asked.{Within, Kept}
 use Rattle.lists.specs.Asked as asked
 use Rattle.lists.specs.Told.{Gives, Answers}
-use Rattle.rooms.specs.declared.Freed.{Freed}
-use Rattle.rooms.specs.Rooms.{Ends, Serves, Frees, asking, filling, given, loading, out_of, Then}
-use Rattle.clock.specs.Inner.{at_mark, Rests, Sweeps, Handed, AtHand, hand_out, Seats, swapping, sweeping, ClockMiss, ClockFull}
-use Rattle.rooms.proofs.Rooming.{frees_as, serves_as, room_serves, says_hit}
-use Rattle.rooms.proofs.Spaces.{space_as, found_entry, found_nothing}
+use Rattle.rooms.specs.declared.freed.Freed.{Freed}
+use Rattle.rooms.specs.Rooms.{Ends, Serves, Frees, asking, filling, given, loading, out_of, Then, Missing}
+use Rattle.clock.specs.Inner.{at_mark, Rests, Sweeps, Handed, AtHand, hand_out, Seats, swapping, sweeping, ClockFull}
+use Rattle.rooms.proofs.Rooming.{ready_as, frees_as, serves_as, room_serves, says_hit}
+use Rattle.rooms.proofs.Spaces.{space_as, found_entry}
 
 -- ── The hand ──
 
@@ -109,14 +109,6 @@ pub record Swing (ws : List ℕ) (n : ℕ) (m : Mem) : Type 0 where
 pub record Sweeping (ws₀ ws : List ℕ) (n : ℕ) : Type 0 where
   pub of : (m : Mem) → Repr ws₀ m → Clock m → Swing ws n m
 
--- before the first turn
-pub swing_start : {ws : List ℕ} → Sweeping ws ws 0
-swing_start = record { of = λ m R K. record { now = m; repr = R; clock = K; left = ap (λ (k : ℕ). sweep k m 0) (omega arith) } }
-
--- the words are a CLOCK directory after each turn
-pub swing_ready : {ws₀ ws : List ℕ} {n : ℕ} → Sweeping ws₀ ws n → Ready ws₀ Clock → Ready ws Clock
-swing_ready s o = let k = s.of o.mem o.repr o.meets in record { mem = k.now; repr = k.repr; meets = k.clock }
-
 module _ {ws₀ ws : List ℕ} {c n : ℕ} (ec : c ≡ capacity_in ws₀) (s : Sweeping ws₀ ws n) where
   capacity : (m : Mem) → Repr ws₀ m → c ≡ capacity_of m
   capacity m R = ec ∙ R.holds.at (top 1) (omega arith)
@@ -127,12 +119,12 @@ module _ {ws₀ ws : List ℕ} {c n : ℕ} (ec : c ≡ capacity_in ws₀) (s : S
       record { repr = subst (λ (x : Swept). Repr ws x.mem) q k.repr; says = ap (λ (x : Swept). x.cleared) q }
 
   -- the hand comes to rest at an entry without a mark
-  pub swing_rest : {b : Bool} → Says ws (Gives at_mark b) → not b ≡ true → Sweeps ws₀ ws n
+  pub swing_rest : {b : Bool} → Says ws (Gives at_mark b) → b ≡ false → Sweeps ws₀ ws n
   unfolding at_mark
   swing_rest {b} a z = record {
     to = λ m R K.
         let k = s.of m R K in
-        rest m k (sweep_stops k.now n (capacity_of m - n) (not-false _ (sym (a.of k.now k.repr).is ∙ not-true b z)));
+        rest m k (sweep_stops k.now n (capacity_of m - n) (not-false _ (sym (a.of k.now k.repr).is ∙ z)));
   }
 
   -- or after C turns
@@ -144,12 +136,12 @@ module _ {ws₀ ws : List ℕ} {c n : ℕ} (ec : c ≡ capacity_in ws₀) (s : S
   }
 
   -- else there is one more turn
-  pub swing_turn : {ws' : List ℕ} {b : Bool} → n < c → Says ws (Gives at_mark b) → not b ≡ false → Turns ws ws' Clock turned → Sweeping ws₀ ws' (n + 1)
+  pub swing_turn : {ws' : List ℕ} {b : Bool} → n < c → Says ws (Gives at_mark b) → b ≡ true → Turns ws ws' Clock turned → Sweeping ws₀ ws' (n + 1)
   unfolding at_mark
   swing_turn {b = b} h a z t = record {
     of = λ m R K.
         let k = s.of m R K in let e = capacity m R in
-        let u = not-true _ (sym (a.of k.now k.repr).is ∙ not-false b z) in
+        let u = not-true _ (sym (a.of k.now k.repr).is ∙ z) in
         record {
           now = turned k.now;
           repr = t.to k.now k.repr k.clock;
@@ -174,7 +166,7 @@ hand_space m K h p hp absent =
     let u = hand_used m K h in let one = K.one e u in
     record {
       asks = record { kept = record { listed = record { within = within m I e u; range = (omega (arith, one), omega (arith, one)); on = inr (K.unordered.bare (m.lists e)) }; hung = I.hung e (paged m I e u) } };
-      leaves = record { room = seat_space S p (λ i z. absent i ((out_makes m K h).pages p hp i z)); hand = S.hand };
+      leaves = record { room = seat_space S p (λ i z. absent i ((out_makes m K h).pages p hp i z)); hand = S.hand; real = hp };
     }
 
 module _ {ws ws₁ : List ℕ} {p : ℕ} where
@@ -185,7 +177,7 @@ module _ {ws ws₁ : List ℕ} {p : ℕ} where
 
   -- and is loaded, and the hand advances
   pub seat_serves : {ws₂ : List ℕ} {r : Answer} (f : Freed) (c : ℕ)
-      → Turns ws ws₁ (asked.Admits p) (enter_seat p f.slot) → Turns ws₁ ws₂ Handed advance → request_says r ≡ gave (loading f c) → Serves ws ws₂ (Seats p) (given f (swapping p c)) r
+      → Turns ws ws₁ (asked.Admits p) (enter_seat p f.slot) → Turns ws₁ ws₂ Handed advance → reply_of r ≡ loading f c → Serves ws ws₂ (Seats p) (given f (swapping p c)) r
   unfolding given swapping seats load loading
   seat_serves f c t u e = record {
     to = λ m R o. record {
@@ -199,20 +191,20 @@ seating : ℕ → Room → Done
 seating p r = load r 0 (seats r p)
 
 seating_serves : {ws ws₁ : List ℕ} {p : ℕ} {r : Answer} (f : Freed)
-    → Turns ws ws₁ (asked.Admits p) (enter_seat p f.slot) → request_says r ≡ gave (loading f 0) → Serves ws ws₁ (asked.Admits p) (given f (seating p)) r
+    → Turns ws ws₁ (asked.Admits p) (enter_seat p f.slot) → reply_of r ≡ loading f 0 → Serves ws ws₁ (asked.Admits p) (given f (seating p)) r
 unfolding given seating seats load loading
 seating_serves f t e = record { to = λ m R o. record { repr = t.to m R o; says = e } }
 
 -- a new page in a free slot
 pub load_serves : {ws ws₁ : List ℕ} {p : ℕ} {r : Answer} (f : Freed)
-    → Frees ws ws Any as_it_is f → Turns ws ws₁ (asked.Admits p) (enter_seat p f.slot) → request_says r ≡ gave (loading f 0) → Serves ws ws₁ (asked.Admits p) (asking clock_load p) r
+    → Frees ws ws Any as_it_is f → Turns ws ws₁ (asked.Admits p) (enter_seat p f.slot) → reply_of r ≡ loading f 0 → Serves ws ws₁ (asked.Admits p) (asking clock_load p) r
 unfolding asking clock_load filling seating
 load_serves {p = p} f F t e = serves_as (room_serves (seating p) F (seating_serves f t e)) (λ m R o. (record { asks = tt; leaves = space_as p m o }, refl))
 
 module _ {ws : List ℕ} {h : ℕ} (eh : h ≡ word6_in ws) where
   -- the entry at the hand that was read can be removed
   pub hand_kept : {room : Mem → Room} {ok : Mem → Type 0} → Ready ws (Then AtHand room ok) → Ready ws (Kept h)
-  hand_kept o = record { mem = o.mem; repr = o.repr; meets = subst (λ (x : ℕ). Kept x o.mem) (sym (hand_is eh o.mem o.repr)) o.meets.asks.kept }
+  hand_kept = ready_as (λ m R o. subst (λ (x : ℕ). Kept x m) (sym (hand_is eh m R)) o.asks.kept)
 
   -- and its page put out is the room
   pub hand_frees : {ws' : List ℕ} {f : Freed} → Frees ws ws' (Kept h) (out_of h) f → Frees ws ws' AtHand hand_out f
@@ -221,18 +213,18 @@ module _ {ws : List ℕ} {h : ℕ} (eh : h ≡ word6_in ws) where
 
 -- ── Full ──
 
-swept_space : (m : Mem) (p : ℕ) → p < NONE → ClockFull p m → Then AtHand hand_out (Seats p) (sweep (capacity_of m) m 0).mem
-swept_space m p hp o =
-    let K = o.miss.clock in let R = sweep_rested m K in
-    hand_space (sweep (capacity_of m) m 0).mem R.clock (sweep_full m K o.full) p hp (λ i z. o.miss.absent i (R.still.pages p hp i z))
+swept_space : (m : Mem) (p : ℕ) → ClockFull p m → Then AtHand hand_out (Seats p) (sweep (capacity_of m) m 0).mem
+swept_space m p o =
+    let K = o.miss.kind in let R = sweep_rested m K in
+    hand_space (sweep (capacity_of m) m 0).mem R.clock (sweep_full m K o.full) p o.miss.real (λ i z. o.miss.absent i (R.still.pages p o.miss.real i z))
 
-module _ {ws ws₁ : List ℕ} {n p : ℕ} (hp : p < NONE) (w : Sweeps ws ws₁ n) where
+module _ {ws ws₁ : List ℕ} {n p : ℕ} (w : Sweeps ws ws₁ n) where
   -- after the sweep the page at the hand can be put out
   pub swept_ready : Ready ws (ClockFull p) → Ready ws₁ (Then AtHand hand_out (Seats p))
   swept_ready o = record {
     mem = (sweep (capacity_of o.mem) o.mem 0).mem;
-    repr = (w.to o.mem o.repr o.meets.miss.clock).repr;
-    meets = swept_space o.mem p hp o.meets;
+    repr = (w.to o.mem o.repr o.meets.miss.kind).repr;
+    meets = swept_space o.mem p o.meets;
   }
 
   -- and the count is the definition's
@@ -240,69 +232,62 @@ module _ {ws ws₁ : List ℕ} {n p : ℕ} (hp : p < NONE) (w : Sweeps ws ws₁ 
   unfolding filling hand_out swapping sweeping clock_swap
   swept_serves {ws₂} {r} S = record {
     to = λ m R o.
-        let k = w.to m R o.miss.clock in let x = (sweep (capacity_of m) m 0).mem in
+        let k = w.to m R o.miss.kind in let x = (sweep (capacity_of m) m 0).mem in
         let t = put_out x (hand_of x) in
-        subst (λ (c : ℕ). Ends ws₂ r (load t c (advance (seats t p)))) k.says (S.to x k.repr (swept_space m p hp o));
+        subst (λ (c : ℕ). Ends ws₂ r (load t c (advance (seats t p)))) k.says (S.to x k.repr (swept_space m p o));
   }
 
 -- ── A page that is not held ──
 
-module _ {ws : List ℕ} {p : ℕ} {b : Bool} (hp : p < NONE) (a : Says ws (Gives full b)) where
-  clock_is : (m : Mem) → ClockMiss p m → eqb (list_on m p) 1 ≡ false
-  clock_is m o = ne_eqb (list_on m p) 1 (λ y. omega (arith, y, list_none m o.clock.seated.indexed p hp o.absent))
+module _ {ws : List ℕ} {p : ℕ} {b : Bool} (a : Says ws (Gives full b)) where
+  clock_is : (m : Mem) → Missing Clock p m → list_on m p ≡ 0
+  clock_is m o = list_none m o.kind.seated.indexed p o.real o.absent
 
-  fills : b ≡ true → (m : Mem) → Repr ws m → ClockMiss p m → ClockFull p m
+  fills : b ≡ true → (m : Mem) → Repr ws m → Missing Clock p m → ClockFull p m
   unfolding full
   fills z m R o = record { miss = o; full = leb-true (capacity_of m) (held m) (sym (a.of m R).is ∙ z) }
 
   -- C are held
-  pub miss_full : b ≡ true → Ready ws (ClockMiss p) → Ready ws (ClockFull p)
-  miss_full z o = record { mem = o.mem; repr = o.repr; meets = fills z o.mem o.repr o.meets }
+  pub miss_full : b ≡ true → Ready ws (Missing Clock p) → Ready ws (ClockFull p)
+  miss_full z = ready_as (fills z)
 
   -- so the page is swapped in
-  pub miss_swapped : {ws' : List ℕ} {r : Answer} → b ≡ true → Serves ws ws' (ClockFull p) (sweeping p) r → Serves ws ws' (ClockMiss p) (asking clock p) r
+  pub miss_swapped : {ws' : List ℕ} {r : Answer} → b ≡ true → Serves ws ws' (ClockFull p) (sweeping p) r → Serves ws ws' (Missing Clock p) (asking clock p) r
   unfolding asking sweeping clock
   miss_swapped z S = serves_as S (λ m R o. (fills z m R o, simp (clock_is m o, sym (a.of m R).is ∙ z)))
 
-  space : b ≡ false → (m : Mem) → Repr ws m → ClockMiss p m → asked.Admits p m
+  space : b ≡ false → (m : Mem) → Repr ws m → Missing Clock p m → asked.Admits p m
   unfolding full
-  space z m R o = seat_space (spare_free m o.clock (leb-false (capacity_of m) (held m) (sym (a.of m R).is ∙ z))) p o.absent
+  space z m R o = seat_space (spare_free m o.kind (leb-false (capacity_of m) (held m) (sym (a.of m R).is ∙ z))) p o.absent
 
   -- fewer are held, so there is room
-  pub miss_room : b ≡ false → Ready ws (ClockMiss p) → Ready ws (asked.Admits p)
-  miss_room z o = record { mem = o.mem; repr = o.repr; meets = space z o.mem o.repr o.meets }
+  pub miss_room : b ≡ false → Ready ws (Missing Clock p) → Ready ws (asked.Admits p)
+  miss_room z = ready_as (space z)
 
   -- where the page is loaded
-  pub miss_loaded : {ws' : List ℕ} {r : Answer} → b ≡ false → Serves ws ws' (asked.Admits p) (asking clock_load p) r → Serves ws ws' (ClockMiss p) (asking clock p) r
+  pub miss_loaded : {ws' : List ℕ} {r : Answer} → b ≡ false → Serves ws ws' (asked.Admits p) (asking clock_load p) r → Serves ws ws' (Missing Clock p) (asking clock p) r
   unfolding asking clock
   miss_loaded z S = serves_as S (λ m R o. (space z m R o, simp (clock_is m o, sym (a.of m R).is ∙ z)))
 
 -- ── The step ──
 
-module _ {ws : List ℕ} {p : ℕ} {f : Found} (hp : p < NONE) (a : Says ws (Answers p f)) where
-  misses : f ≡ Nothing → (m : Mem) → Repr ws m → Clock m → ClockMiss p m
-  misses z m R K = record { clock = K; absent = (found_nothing a z hp m R K.seated.indexed).absent }
+-- a CLOCK directory has its pages in the index
+pub clock_indexed : (m : Mem) → Clock m → Indexed m
+clock_indexed m K = K.seated.indexed
 
-  -- a page that was not found is not held
-  pub clock_missing : f ≡ Nothing → Ready ws Clock → Ready ws (ClockMiss p)
-  clock_missing z o = record { mem = o.mem; repr = o.repr; meets = misses z o.mem o.repr o.meets }
-
-  -- and is served as such
-  pub clock_missed : {ws' : List ℕ} {r : Answer} → f ≡ Nothing → Serves ws ws' (ClockMiss p) (asking clock p) r → Serves ws ws' Clock (asking clock p) r
-  clock_missed z S = serves_as S (λ m R K. (misses z m R K, refl))
-
-  module _ {e b : ℕ} (z : f ≡ At e b) where
+module _ {ws : List ℕ} {p : ℕ} {f : Option Found} (hp : p < NONE) (a : Says ws (Answers p f)) where
+  module _ {found : Found} (z : f ≡ Some found) where
     -- a page that was found has an entry
-    pub clock_within : Ready ws Clock → Ready ws (Within e)
-    clock_within o = record { mem = o.mem; repr = o.repr; meets = record { within = (found_entry a z o.mem o.repr).hung.within } }
+    pub clock_within : Ready ws Clock → Ready ws (Within found.entry)
+    clock_within = ready_as (λ m R o. record { within = (found_entry a z m R).hung.within })
 
     -- whose mark becomes 1
-    pub clock_hit : {ws' : List ℕ} {s : ℕ} → s ≡ word ws (cell_at e slot_col) → Turns ws ws' (Within e) (with_mark e 1) → Serves ws ws' Clock (asking clock p) (Hit s 0)
+    pub clock_hit : {ws' : List ℕ} {s : ℕ} → s ≡ word ws (cell_at found.entry slot_col) → Turns ws ws' (Within found.entry) (with_mark found.entry 1) → Serves ws ws' Clock (asking clock p) (Hit s 0)
     unfolding asking clock
     clock_hit {ws'} {s} es t = record {
       to = λ m R K.
           let k = found_entry a z m R in
-          let l : list_on m p ≡ 1 = list_is m K.seated.indexed p hp e k.page ∙ K.one e (λ y. omega (arith, k.page, K.idle e y)) in
-          simp (k.entry, eq-eqb (list_on m p) 1 l)
-          (record { repr = unfold hit_at in t.to m R (record { within = k.hung.within }); says = says_hit es m R k.hung.within (with_mark e 1 m) });
+          let l : list_on m p ≡ 1 = list_is m K.seated.indexed p hp found.entry k.page ∙ K.one found.entry (λ y. omega (arith, k.page, K.idle found.entry y)) in
+          simp (k.entry, l)
+          (record { repr = unfold hit_at in t.to m R (record { within = k.hung.within }); says = says_hit es m R k.hung.within (with_mark found.entry 1 m) });
     }

@@ -1,5 +1,6 @@
 -- What CLOCK's inner steps ask of a directory, and what they promise.
 use Rattle.std.specs.Prelude.{ℕ, ◌≤◌, ◌<◌, ◌≡◌, Bool, not, List, eqb}
+use Rattle.meaning.specs.Neighbours.{NONE}
 use Rattle.meaning.specs.Mem.{Mem, held, capacity_of, hand_of}
 use Rattle.meaning.specs.Room.{Done, Room, put_out, load}
 use Rattle.meaning.specs.Clock.{advance, sweep, seats, clock_swap}
@@ -7,6 +8,7 @@ use Rattle.invariants.specs.Assumed.{Clock}
 use Rattle.invariants.specs.Places.{Repr}
 use Rattle.lists.specs.Asked.{Kept}
 use Rattle.lists.specs.Asked as asked
+use Rattle.rooms.specs.Rooms.{Missing}
 
 -- Whether the entry at the hand is marked.
 unfoldable pub at_mark : Mem → Bool
@@ -33,9 +35,10 @@ pub record AtHand (m : Mem) : Type 0 where
 unfoldable pub hand_out : Mem → Room
 hand_out m = put_out m (hand_of m)
 
--- There is a free entry for the page p, and the hand is below C.
+-- There is a free entry for the page p, which is not NONE, and the hand is below C.
 pub record Seats (p : ℕ) (m : Mem) : Type 0 where
   pub room : asked.Admits p m
+  pub real : p < NONE
   pub hand : hand_of m < capacity_of m
 
 -- A new page takes its place and the hand advances, after so many marks cleared.
@@ -46,12 +49,7 @@ swapping page cleared r = load r cleared (advance (seats r page))
 unfoldable pub sweeping : ℕ → Mem → Done
 sweeping page m = clock_swap (sweep (capacity_of m) m 0) page
 
--- A CLOCK directory without the page p.
-pub record ClockMiss (p : ℕ) (m : Mem) : Type 0 where
-  pub clock : Clock m
-  pub absent : (i : ℕ) → m.pages i ≡ p → ⊥
-
--- The same, and C are held.
+-- A CLOCK directory without the page p, in which C are held.
 pub record ClockFull (p : ℕ) (m : Mem) : Type 0 where
-  pub miss : ClockMiss p m
+  pub miss : Missing Clock p m
   pub full : capacity_of m ≤ held m

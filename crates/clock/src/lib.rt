@@ -8,10 +8,9 @@ ghost use Rattle.invariants.specs.Assumed.{Clock};
 ghost use Rattle.theorems.specs.Sweep.{turned};
 ghost use Rattle.lists.specs.Asked.{Admits};
 ghost use Rattle.lists.specs.Told.{Gives};
-ghost use Rattle.rooms.specs.Rooms.{Serves, asking, filling, given, Then};
-ghost use Rattle.clock.specs.Inner.{at_mark, Sweeps, Handed, AtHand, hand_out, Seats, swapping, sweeping, ClockMiss, ClockFull};
+ghost use Rattle.rooms.specs.Rooms.{Serves, asking, filling, given, Then, Missing};
+ghost use Rattle.clock.specs.Inner.{at_mark, Sweeps, Handed, AtHand, hand_out, Seats, swapping, sweeping, ClockFull};
 
-use lists::Found;
 use meaning::Answer;
 use rooms::{Freed, answer, as_it_is, full, put_out};
 use settings::{CAPACITY, MARK, SLOT, WORD6};
@@ -56,21 +55,18 @@ fn sweep(words: &mut [u32]) -> u32
     ensures { Sweeps words.old words.new result }
 {
     let c = lists::word(words, CAPACITY);
-    let mut n = 0;
-    while n < c {
+    for n in 0..c {
         if !marked(words) {
             return n;
         }
         turn(words);
-        n += 1;
     }
-    n
+    c
 }
 
 // Seats a new page in the slot that is free, and advances the hand.
 fn swap_in(words: &mut [u32], page: u32, cleared: u32, f: Freed) -> Answer
-    requires ready { Ready words.old (Seats page) }
-    requires page_bound { page < 4294967295 }
+    requires { Ready words.old (Seats page) }
     ensures { Serves words.old words.new (Seats page) (given f (swapping page cleared)) result }
 {
     lists::enter_seat(words, page, f.slot);
@@ -80,19 +76,17 @@ fn swap_in(words: &mut [u32], page: u32, cleared: u32, f: Freed) -> Answer
 
 // Puts out the page at the hand, seats the new one, and advances the hand.
 fn swap_at_hand(words: &mut [u32], page: u32, cleared: u32) -> Answer
-    requires ready { Ready words.old (Then AtHand hand_out (Seats page)) }
-    requires page_bound { page < 4294967295 }
+    requires { Ready words.old (Then AtHand hand_out (Seats page)) }
     ensures { Serves words.old words.new (Then AtHand hand_out (Seats page)) (filling hand_out (swapping page cleared)) result }
 {
     let h = lists::word(words, WORD6);
-    let f = put_out(words, h);
+    let f = put_out(words, h, None);
     swap_in(words, page, cleared, f)
 }
 
 // Full: sweeps, and swaps at the hand.
 fn clock_full(words: &mut [u32], page: u32) -> Answer
-    requires ready { Ready words.old (ClockFull page) }
-    requires page_bound { page < 4294967295 }
+    requires { Ready words.old (ClockFull page) }
     ensures { Serves words.old words.new (ClockFull page) (sweeping page) result }
 {
     let n = sweep(words);
@@ -112,9 +106,8 @@ fn clock_load(words: &mut [u32], page: u32) -> Answer
 
 // A page that is not held.
 fn clock_miss(words: &mut [u32], page: u32) -> Answer
-    requires ready { Ready words.old (ClockMiss page) }
-    requires page_bound { page < 4294967295 }
-    ensures { Serves words.old words.new (ClockMiss page) (asking clock page) result }
+    requires { Ready words.old (Missing Clock page) }
+    ensures { Serves words.old words.new (Missing Clock page) (asking clock page) result }
 {
     if full(words) {
         return clock_full(words, page);
@@ -128,14 +121,10 @@ pub fn clock_step(words: &mut [u32], page: u32) -> Answer
     requires page_bound { page < 4294967295 }
     ensures { Serves words.old words.new Clock (asking clock page) result }
 {
-    let f = lists::find(words, page);
-    let Found::At(e, _) = f else {
+    let Some(found) = lists::find(words, page) else {
         return clock_miss(words, page);
     };
-    let s = lists::cell(words, e, SLOT);
-    lists::set_mark(words, e, 1);
-    Answer::Hit {
-        slot: s,
-        cleared: 0,
-    }
+    let slot = lists::cell(words, found.entry, SLOT);
+    lists::set_mark(words, found.entry, 1);
+    Answer::Hit { slot, cleared: 0 }
 }

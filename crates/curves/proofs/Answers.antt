@@ -1,7 +1,7 @@
 -- Which answer `curve` owes: the refusal's number from the tests, in their order, and the promise from the number.
 use Prim.Native.Nat.{ℕ, ◌≤◌, ◌<◌}
 use mathlib.Core.Path.{◌≡◌, refl, sym, ap, ◌∙◌}
-use mathlib.Core.Bool.{false, not}
+use mathlib.Core.Bool.{true, false, not}
 use mathlib.Core.List.{List, ◌++◌}
 use native.Mathlib.Omega.{arith}
 use borrow.Author.Tests.{lt-ltb, le-ltb, lt-leb, le-leb}
@@ -11,13 +11,13 @@ use Rattle.std.specs.Prelude.{if◌then◌else◌}
 use Rattle.meaning.specs.Base.{series, pad}
 use Rattle.meaning.specs.Neighbours.{NONE, has}
 use Rattle.invariants.specs.Ram.{Pages}
-use Rattle.meaning.specs.Calls.{plain, gave, Outcome, refuse, over, Buffers, both, curve_refusal, curved, lru_hits, lru_pages}
-use Rattle.meaning.specs.declared.Curved.TheVariants.{Done, Refused}
-use Rattle.meaning.proofs.Injective.{as_struct}
-use Rattle.traces.specs.Depth.{depth}
+use Rattle.meaning.specs.Calls.{plain, refused, gave, Outcome, refuse, over, Buffers, both, curve_refusal, curved, lru_hits, lru_pages}
+use Rattle.std.specs.Prelude.{Ok, Err}
+use Rattle.meaning.specs.Answers.{refusal_says}
+use Rattle.meaning.specs.declared.Refusal.{Refusal}
+use Rattle.meaning.specs.declared.Refusal.TheVariants.{CapacityOutside, TooLong, PageIsNone, TooShort}
 use Rattle.curves.specs.PageList.{pages_of, hits_of}
 use Rattle.curves.specs.Curve.{CurvedAs}
-use Rattle.traces.proofs.Depth.{has_depth}
 use Rattle.invariants.proofs.Series.{length_series, series_same}
 use Rattle.curves.proofs.Counts.{length_pad}
 use Rattle.curves.proofs.Projection.{hits_plain, pages_plain}
@@ -37,44 +37,44 @@ module _ (m : ℕ) (t r w : List ℕ) where
   outcome_is n e = ap outcome e
 
   -- a refusal changes nothing
-  refuses : (n : ℕ) → eqb n 0 ≡ false → number ≡ n → CurvedAs m t r w (Refused (as_struct (plain n))) r w
+  refuses : (q : Refusal) (n : ℕ) → refusal_says q ≡ plain n → eqb n 0 ≡ false → number ≡ n → CurvedAs m t r w (Err q) r w
   unfolding refuse
-  refuses n z e =
+  refuses q n k z e =
       let o : curved m t r w ≡ refuse (plain n) (both r w) = outcome_is n e ∙ simp z in
-      record { answer = ap (λ (x : Outcome (Unit {0}) Buffers). x.said) (sym o); memory = ap (λ (x : Outcome (Unit {0}) Buffers). x.left) (sym o) }
+      record { answer = ap refused k ∙ ap (λ (x : Outcome (Unit {0}) Buffers). x.said) (sym o); memory = ap (λ (x : Outcome (Unit {0}) Buffers). x.left) (sym o) }
 
   -- 2: the largest capacity is 0
-  pub low : m < 1 → CurvedAs m t r w (Refused (as_struct (plain 2))) r w
+  pub low : m < 1 → CurvedAs m t r w (Err CapacityOutside) r w
   unfolding curve_refusal
-  low a = refuses 2 refl (simp (lt-leb 1 m a))
+  low a = refuses CapacityOutside 2 refl refl (simp (lt-leb 1 m a))
 
   -- 2: it is over 512
-  pub high : 1 ≤ m → 512 < m → CurvedAs m t r w (Refused (as_struct (plain 2))) r w
+  pub high : 1 ≤ m → 512 < m → CurvedAs m t r w (Err CapacityOutside) r w
   unfolding curve_refusal
-  high a b = refuses 2 refl (simp (le-leb 1 m a, lt-leb m 512 b))
+  high a b = refuses CapacityOutside 2 refl refl (simp (le-leb 1 m a, lt-leb m 512 b))
 
   module _ (a : 1 ≤ m) (b : m ≤ 512) where
     -- 7: the trace is too long
-    pub long : 65535 < length t → CurvedAs m t r w (Refused (as_struct (plain 7))) r w
+    pub long : 65535 < length t → CurvedAs m t r w (Err TooLong) r w
     unfolding curve_refusal
-    long l = refuses 7 refl (simp (le-leb 1 m a, le-leb m 512 b, lt-ltb 65535 (length t) l))
+    long l = refuses TooLong 7 refl refl (simp (le-leb 1 m a, le-leb m 512 b, lt-ltb 65535 (length t) l))
 
     module _ (l : length t ≤ 65535) where
-      -- 6: `find` of NONE came to d, a place of the trace
-      pub unpaged : (d : ℕ) → d ≡ depth NONE t → d < length t → CurvedAs m t r w (Refused (as_struct (plain 6))) r w
+      -- 6: a page is NONE
+      pub unpaged : has t NONE ≡ true → CurvedAs m t r w (Err PageIsNone) r w
       unfolding curve_refusal
-      unpaged d e h = refuses 6 refl (simp (le-leb 1 m a, le-leb m 512 b, le-ltb 65535 (length t) l, has_depth NONE t ∙ lt-ltb (depth NONE t) (length t) (omega arith)))
+      unpaged h = refuses PageIsNone 6 refl refl (simp (le-leb 1 m a, le-leb m 512 b, le-ltb 65535 (length t) l, h))
 
       module _ (h : has t NONE ≡ false) where
         -- 8: result is too short
-        pub narrow : length r < m → CurvedAs m t r w (Refused (as_struct (plain 8))) r w
+        pub narrow : length r < m → CurvedAs m t r w (Err TooShort) r w
         unfolding curve_refusal
-        narrow k = refuses 8 refl (simp (le-leb 1 m a, le-leb m 512 b, le-ltb 65535 (length t) l, h, lt-ltb (length r) m k))
+        narrow k = refuses TooShort 8 refl refl (simp (le-leb 1 m a, le-leb m 512 b, le-ltb 65535 (length t) l, h, lt-ltb (length r) m k))
 
         -- 8: work is too short
-        pub cramped : m ≤ length r → length w < m → CurvedAs m t r w (Refused (as_struct (plain 8))) r w
+        pub cramped : m ≤ length r → length w < m → CurvedAs m t r w (Err TooShort) r w
         unfolding curve_refusal
-        cramped k q = refuses 8 refl (simp (le-leb 1 m a, le-leb m 512 b, le-ltb 65535 (length t) l, h, le-ltb (length r) m k, lt-ltb (length w) m q))
+        cramped k q = refuses TooShort 8 refl refl (simp (le-leb 1 m a, le-leb m 512 b, le-ltb 65535 (length t) l, h, le-ltb (length r) m k, lt-ltb (length w) m q))
 
         -- nothing is refused
         pub outcome_done : m ≤ length r → m ≤ length w → curved m t r w ≡ outcome 0
@@ -83,7 +83,7 @@ module _ (m : ℕ) (t r w : List ℕ) where
 
         -- what `curve_into` leaves in the fronts of result and work is what is owed
         pub done : m ≤ length r → m ≤ length w → Pages t → (r₁ w₁ : List ℕ) → r₁ ≡ series (hits_of t) m 1 → w₁ ≡ pad NONE m (pages_of m t)
-            → CurvedAs m t r w Done (r₁ ++ drop m r) (w₁ ++ drop m w)
+            → CurvedAs m t r w (Ok tt) (r₁ ++ drop m r) (w₁ ++ drop m w)
         unfolding over
         done k q ps r₁ w₁ x y =
             let o = outcome_done k q in
@@ -93,3 +93,6 @@ module _ (m : ℕ) (t r w : List ℕ) where
               answer = ap (λ (z : Outcome (Unit {0}) Buffers). z.said) (sym o);
               memory = (λ j. both (x' j ++ drop (sym (length_series (lru_hits t) m 1) j) r) (y' j ++ drop (sym (length_pad m (lru_pages t m)) j) w)) ∙ ap (λ (z : Outcome (Unit {0}) Buffers). z.left) (sym o);
             }
+
+-- Each refusal, by the tests that led to it.
+pub ruleset owed = (low, high, long, unpaged, narrow, cramped)

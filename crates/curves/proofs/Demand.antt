@@ -12,8 +12,8 @@ use Rattle.meaning.specs.Layout.{length_of}
 use Rattle.meaning.specs.Mem.{words, decode, fresh}
 use Rattle.invariants.specs.Ram.{Pages}
 use Rattle.meaning.specs.Calls.{gave, Outcome, over, refusal_of, formed, pages_on, Counts, ran, replayed, lru_run, lru_hits, lru_pages, Buffers, curved}
-use Rattle.meaning.specs.declared.Curved.{Curved}
-use Rattle.meaning.specs.declared.Curved.TheVariants.{Done}
+use Rattle.std.specs.Prelude.{Result, Ok}
+use Rattle.meaning.specs.declared.Refusal.{Refusal}
 use Rattle.meaning.proofs.Injective.{curve_settles}
 use Rattle.invariants.proofs.Back.{fresh_sound}
 use Rattle.curves.specs.Curve.{CurvedAs}
@@ -42,13 +42,13 @@ pub record AtCapacity (m c : ℕ) (t B b r w : List ℕ) : Type 0 where
   pub places : take c w ≡ pad NONE c (held_after c b t)
 
 module _ (t : List ℕ) (short : length t ≤ 65535) (ps : Pages t) (m : ℕ) (lo : 1 ≤ m) (hi : m ≤ 512) (r w : List ℕ) (room : m ≤ length r) (space : m ≤ length w)
-    (a : Curved) (r₁ w₁ : List ℕ) (left : CurvedAs m t r w a r₁ w₁) where
+    (a : Result (Unit {0}) Refusal) (r₁ w₁ : List ℕ) (left : CurvedAs m t r w a r₁ w₁) where
   is : curved m t r w ≡ outcome m t r w 0
   is = outcome_done m t r w lo hi short (no_none t ps) room space
 
   -- The call is done on every allowed trace and capacity, with room.
-  pub done : a ≡ Done
-  done = curve_settles a Done (left.answer ∙ ap (λ (o : Outcome (Unit {0}) Buffers). o.said) is)
+  pub done : a ≡ Ok tt
+  done = curve_settles a (Ok tt) (left.answer ∙ ap (λ (o : Outcome (Unit {0}) Buffers). o.said) is)
 
   -- Result word c-1 holds the LRU hits at capacity c.
   hits_at : (c : ℕ) → 1 ≤ c → c ≤ m → get_or r₁ (c - 1) 0 ≡ lru_hits t c
@@ -90,7 +90,7 @@ module _ (t : List ℕ) (short : length t ≤ 65535) (ps : Pages t) where
     held_is = ap (λ (o : Outcome Counts (List ℕ)). pages_on (decode o.left) 1) replays_is
 
   -- Demand 3, from what `curve` promises: for each capacity c from 1 to the largest, m.
-  pub demand3 : (m : ℕ) → 1 ≤ m → m ≤ 512 → (r w : List ℕ) → m ≤ length r → m ≤ length w → (a : Curved) (r₁ w₁ : List ℕ) → CurvedAs m t r w a r₁ w₁
+  pub demand3 : (m : ℕ) → 1 ≤ m → m ≤ 512 → (r w : List ℕ) → m ≤ length r → m ≤ length w → (a : Result (Unit {0}) Refusal) (r₁ w₁ : List ℕ) → CurvedAs m t r w a r₁ w₁
       → (B : List ℕ) → length B ≡ length_of (lru_of m) → (c : ℕ) → 1 ≤ c → c ≤ m → (b : List ℕ) → length b ≡ length_of (lru_of c) → AtCapacity m c t B b r₁ w₁
   unfolding ran lru_hits
   demand3 m lo hi r w room space a r₁ w₁ left B large c from to b exact =

@@ -1,59 +1,39 @@
--- A loop that goes up and overwrites: W with its first i words replaced by N's. And totals of fronts.
+-- Totals of fronts, and sums by turns.
 use mathlib.Core.Path.{◌≡◌, refl, sym, ap, ◌∙◌}
 use mathlib.Core.List.{List, [], ◌∷◌, ◌++◌, append-nil}
 use mathlib.Core.Bool.{Bool}
 use Prim.Native.Nat.{ℕ, zero, suc, ◌+◌, ◌≤◌, ◌<◌, zero-le}
 use native.Mathlib.Nat.{not-suc-le-zero, le_of_suc-le-suc, le_refl, add_assoc, add-zero, zero-add}
 use native.Mathlib.Omega.{arith}
-use lib.ListN.{length, get_or, set, take, drop, length-set, length-append, length-drop, get_or-append, drop_of_length-le}
-use lib.Seq.{take_all, get_or-take, length-take-le, take_at}
+use native.Mathlib.Numerals.{add-one}
+use lib.ListN.{length, get_or, set, take, drop, length-set, drop_of_length-le}
+use lib.Seq.{take_all, set_out}
 use lib.Dec.{ltb, leb-suc-zero, leb-suc-suc, leb-zero}
 use Rattle.meaning.specs.Base.{one_if}
 use Rattle.invariants.proofs.Numbers.{one_le}
-use Rattle.curves.specs.Curve.{moved, bump, total, sums}
+use Rattle.curves.specs.Curve.{bump, total, sums}
 
--- W with its first i words replaced by those of N
-abbrev pub over_to : ℕ → List ℕ → List ℕ → List ℕ
-over_to i N W = take i N ++ drop i W
+-- One word more is added up: it becomes the sum, and the sums of what is left go on from it.
+sums_suc : (s : List ℕ) (a i : ℕ) → i < length s → take (suc i) (set s i (a + get_or s i 0)) ++ sums (a + get_or s i 0) (drop (suc i) (set s i (a + get_or s i 0))) ≡ take i s ++ sums a (drop i s)
+sums_suc [] a i h = absurd (not-suc-le-zero h)
+sums_suc (x ∷ s) a zero h = refl
+sums_suc (x ∷ s) a (suc i) h = ap (λ (r : List ℕ). x ∷ r) (sums_suc s a i (le_of_suc-le-suc h))
 
--- a turn's store
-pub over_to_set : (i : ℕ) (N W : List ℕ) → i < length N → i < length W → set (over_to i N W) i (get_or N i 0) ≡ over_to (suc i) N W
-over_to_set zero [] W h k = absurd (not-suc-le-zero h)
-over_to_set zero (n ∷ N) [] h k = absurd (not-suc-le-zero k)
-over_to_set zero (n ∷ N) (x ∷ W) h k = refl
-over_to_set (suc i) [] W h k = absurd (not-suc-le-zero h)
-over_to_set (suc i) (n ∷ N) [] h k = absurd (not-suc-le-zero k)
-over_to_set (suc i) (n ∷ N) (x ∷ W) h k = ap (λ (r : List ℕ). n ∷ r) (over_to_set i N W (le_of_suc-le-suc h) (le_of_suc-le-suc k))
+total_suc : (s : List ℕ) (a i : ℕ) → i < length s → a + get_or s i 0 + total (drop (suc i) (set s i (a + get_or s i 0))) ≡ a + total (drop i s)
+total_suc [] a i h = absurd (not-suc-le-zero h)
+total_suc (x ∷ s) a zero h = omega arith
+total_suc (x ∷ s) a (suc i) h = total_suc s a i (le_of_suc-le-suc h)
 
--- what a turn reads is still as it was
-pub over_to_get : (i : ℕ) (N W : List ℕ) → i < length N → i < length W → get_or (over_to i N W) i 0 ≡ get_or W i 0
-over_to_get zero N W h k = refl
-over_to_get (suc i) [] W h k = absurd (not-suc-le-zero h)
-over_to_get (suc i) (n ∷ N) [] h k = absurd (not-suc-le-zero k)
-over_to_get (suc i) (n ∷ N) (x ∷ W) h k = over_to_get i N W (le_of_suc-le-suc h) (le_of_suc-le-suc k)
+-- The same, as the code counts.
+pub sums_turn : (s : List ℕ) (a i : ℕ) → i < length s → take (i + 1) (set s i (a + get_or s i 0)) ++ sums (a + get_or s i 0) (drop (i + 1) (set s i (a + get_or s i 0))) ≡ take i s ++ sums a (drop i s)
+sums_turn s a i h = rw add-one (sums_suc s a i h)
 
--- all of it
-pub over_to_all : (i : ℕ) (N W : List ℕ) → length N ≤ i → length W ≤ i → over_to i N W ≡ N
-over_to_all i N W h k = ap (λ (r : List ℕ). take i N ++ r) (drop_of_length-le W k) ∙ append-nil (take i N) ∙ take_all i N h
+pub total_turn : (s : List ℕ) (a i : ℕ) → i < length s → a + get_or s i 0 + total (drop (i + 1) (set s i (a + get_or s i 0))) ≡ a + total (drop i s)
+total_turn s a i h = rw add-one (total_suc s a i h)
 
--- the words that move one down
-pub moved_get : (e p : ℕ) (W : List ℕ) (i : ℕ) → e < length W → i ≤ e → get_or (moved e p W) i 0 ≡ get_or (p ∷ W) i 0
-moved_get e p W zero h k = refl
-moved_get e p W (suc i) h k =
-    let n : length (take e W) ≡ e = length-take-le e W (omega arith) in
-    get_or-append (take e W) (drop (suc e) W) 0 i (omega arith) ∙ get_or-take e W i 0 k
-
--- past place e nothing moves
-pub moved_over_to : (e p : ℕ) (W : List ℕ) → e < length W → over_to (suc e) (moved e p W) W ≡ moved e p W
-moved_over_to e p W h = ap (λ (r : List ℕ). p ∷ (r ++ drop (suc e) W)) (take_at (take e W) (drop (suc e) W) e (length-take-le e W (omega arith)))
-
--- nothing is lost or gained
-pub length_moved : (e p : ℕ) (W : List ℕ) → e < length W → length (moved e p W) ≡ length W
-length_moved e p W h =
-    let a : length (take e W) ≡ e = length-take-le e W (omega arith) in
-    omega (arith, length-append (take e W) (drop (suc e) W), length-drop (suc e) W)
-
--- ---- totals
+-- Nothing is left to add up.
+pub sums_end : (s : List ℕ) (a i : ℕ) → length s ≤ i → take i s ++ sums a (drop i s) ≡ s
+sums_end s a i h = simp (take_all i s h, drop_of_length-le s h, append-nil)
 
 -- the total of a front that is one longer
 pub total_take_suc : (k : ℕ) (R : List ℕ) → total (take (suc k) R) ≡ total (take k R) + get_or R k 0
@@ -82,6 +62,10 @@ pub sums_get : (a : ℕ) (R : List ℕ) (k : ℕ) → k < length R → get_or (s
 sums_get a [] k h = absurd (not-suc-le-zero h)
 sums_get a (x ∷ xs) zero h = ap (λ (n : ℕ). a + n) (sym (add-zero x))
 sums_get a (x ∷ xs) (suc k) h = sums_get (a + x) xs k (le_of_suc-le-suc h) ∙ add_assoc a x (total (take (suc k) xs))
+
+-- Past the end nothing is counted.
+pub bump_out : (R : List ℕ) (d : ℕ) → length R ≤ d → bump R d ≡ R
+bump_out R d h = set_out R d (get_or R d 0 + 1) h
 
 -- one more at depth d is one more in each front that reaches past d
 pub total_bump : (c : ℕ) (R : List ℕ) (d : ℕ) → c ≤ length R → total (take c (bump R d)) ≡ total (take c R) + one_if (ltb d c)

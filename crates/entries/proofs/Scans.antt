@@ -1,154 +1,137 @@
--- Loops over all entries and over all slots: the lowest free entry, the held pages, and the lowest free slot.
-use Prim.Native.Nat.{ℕ, ◌+◌, ◌≤◌, ◌<◌}
-use mathlib.Core.Path.{◌≡◌, refl, sym, ap, ap₂, ◌∙◌}
-use mathlib.Core.Bool.{Bool, true, false, not, ◌&&◌}
-use mathlib.Core.List.{List}
+-- What is read off all entries and off all slots: the lowest free entry, the held pages, and the lowest free slot.
+use Prim.Native.Nat.{ℕ, zero, suc, ◌+◌, ◌≤◌, ◌<◌}
+use mathlib.Core.Path.{◌≡◌, refl, sym, ap, ap₂, subst, ◌∙◌}
+use mathlib.Core.Bool.{Bool, true, false, not, ◌&&◌, cond}
+use mathlib.Core.List.{List, ◌∷◌}
 use native.Mathlib.Omega.{arith}
 use native.Mathlib.Numerals.{add-one}
+use Rattle.std.proofs.Math.Nat.{zero-add, add-zero}
 use lib.Dec.{eqb}
+use lib.ListN.{length}
+use Rattle.std.specs.Prelude.{Option, Some, None}
+use Rattle.std.specs.Bool.{MatchBool}
+use Rattle.std.specs.List.{AllWithin, HoldsAt, range_with_len, filter}
+use Rattle.std.specs.Option.{MatchOption, unwrap_or}
+use Rattle.std.proofs.lemmas.List.FromFn.{length-range_with_len, get_or-range_with_len}
 use borrow.Author.Tests.{eq-eqb, ne_eqb}
-use Rattle.meaning.specs.Base.{one_if, tally, first}
-use Rattle.meaning.specs.Layout.{is_held, cell_at, list_col, slot_col}
+use Rattle.meaning.specs.Base.{one_if, tally, first, some}
+use Rattle.meaning.specs.Layout.{is_held, cell_at, list_col}
 use Rattle.meaning.specs.Mem.{Mem, word, lowest, held, sits, taken, free_slot, E, capacity_in, capacity_of, entry_count}
 use Rattle.invariants.specs.Places.{top, cell, list, slot, Repr, Says}
-use Rattle.invariants.proofs.Lists.{split}
 use Rattle.invariants.proofs.Numbers.{first_at, some_hit, some_miss}
 use Rattle.cells.specs.Told.{Gives, GivesOf}
 use Rattle.entries.specs.Written.{sits_at}
 
--- the test f fails of each number below i
-pub record Passed (f : Mem → ℕ → Bool) (i : ℕ) (m : Mem) : Type 0 where
-  pub none : (e : ℕ) → e < i → f m e ≡ false
+-- ── Chains over the numbers below n ──
 
-pub passed_start : {ws : List ℕ} {f : Mem → ℕ → Bool} → Says ws (Passed f 0)
-passed_start = record { of = λ m R. record { none = λ e h. absurd (omega arith) } }
+-- r is the least number below n of which Yes holds, or n; No holds of those before it
+pub record Least (Yes No : ℕ → Type 0) (n r : ℕ) : Type 0 where
+  pub within : r ≤ n
+  pub before : (e : ℕ) → e < r → No e
+  pub hit : r < n → Yes r
 
-passed_next : {ws : List ℕ} {f : Mem → ℕ → Bool} {i : ℕ} → Says ws (Passed f i) → ((m : Mem) → Repr ws m → f m i ≡ false) → Says ws (Passed f (i + 1))
-passed_next {f = f} {i = i} s h = record {
-  of = λ m R. record {
-    none = λ e l. split e i (λ z t. ap (f m) z ∙ h m R) (λ z t. (s.of m R).none e (omega (arith, z)));
-  };
+-- what holds at each place of the numbers below n holds of each number
+each_below : {n k : ℕ} (P : ℕ → Type 0) → k ≤ n → AllWithin P (range_with_len 0 n) 0 k → (e : ℕ) → e < k → P e
+each_below {n} P h a e l = subst P (get_or-range_with_len 0 n e 0 (omega arith) ∙ zero-add e) (a e 0 (omega arith) l)
+
+-- what holds at a place of the numbers below n holds of its number
+some_below : {n k : ℕ} (P : ℕ → Type 0) → k < n → HoldsAt P (range_with_len 0 n) k → P k
+some_below {n} {k} P h a = subst P (get_or-range_with_len 0 n k 0 h ∙ zero-add k) (a 0)
+
+-- what `find` over the numbers below n answers, or n
+pub least_found : {n : ℕ} {Yes No : ℕ → Type 0} (r : Option ℕ)
+    → MatchOption r (AllWithin No (range_with_len 0 n) 0 (length (range_with_len 0 n)))
+    (λ x. Yes x × (i : ℕ) × (i < length (range_with_len 0 n)) × HoldsAt (λ y. y ≡ x) (range_with_len 0 n) i × AllWithin No (range_with_len 0 n) 0 i)
+    → Least Yes No n (unwrap_or r n)
+least_found {n} {Yes} {No} None h = record {
+  within = omega arith;
+  before = each_below No (omega arith) (subst (λ (k : ℕ). AllWithin No (range_with_len 0 n) 0 k) (length-range_with_len 0 n) h);
+  hit = λ l. absurd (omega arith);
 }
+least_found {n} {Yes} {No} (Some x) h =
+    let i = h.1 in let l : i < n = omega (arith, h.2, length-range_with_len 0 n) in
+    let e : i ≡ x = some_below (λ y. y ≡ x) l h.3 in
+    record { within = omega arith; before = λ k g. each_below No (omega arith) h.4 k (omega arith); hit = λ g. h.0 }
 
+-- the least number below n that passes the test, or n, is `first`
 least : (f : ℕ → Bool) (n k : ℕ) → k ≤ n → ((e : ℕ) → e < k → f e ≡ false) → (k < n → f k ≡ true) → k ≡ first f 0 n
 least f n k h a b = sym (first_at f 0 n k (omega arith) (omega arith) (λ e l g. a e g) (λ g. b (omega arith)))
 
 -- ── The lowest free entry ──
 
-pub is_free : Mem → ℕ → Bool
-is_free m i = eqb (m.lists i) 0
+-- r is the lowest free entry
+pub free_least : {ws : List ℕ} {n r : ℕ} → n ≡ E ws → Least (λ e. word ws (cell_at e list_col) ≡ 0) (λ e. word ws (cell_at e list_col) ≡ 0 → ⊥) n r → Says ws (Gives lowest r)
+unfolding lowest
+free_least {n = n} {r = r} en l = record {
+  of = λ m R. let a : n ≡ entry_count m = en ∙ R.holds.at (top 2) (omega arith) in record {
+    is = least (λ e. eqb (m.lists e) 0) (entry_count m) r (omega (arith, a, l.within))
+        (λ e h. ne_eqb (m.lists e) 0 (λ z. l.before e h (R.holds.at (cell list e) (omega (arith, a, l.within)) ∙ z)))
+        (λ h. eq-eqb (m.lists r) 0 (sym (R.holds.at (cell list r) h) ∙ l.hit (omega (arith, a))));
+  };
+}
 
-module _ {ws : List ℕ} {i n : ℕ} (s : Says ws (Passed is_free i)) (en : n ≡ E ws) where
-  all : (m : Mem) → Repr ws m → n ≡ entry_count m
-  all m R = en ∙ R.holds.at (top 2) (omega arith)
+-- ── Whether a slot is taken, and the lowest that is not ──
 
-  pub free_hit : {x : ℕ} → i < n → x ≡ word ws (cell_at i list_col) → x ≡ 0 → Says ws (Gives lowest i)
-  unfolding lowest is_free
-  free_hit h ex z = record {
-    of = λ m R. record {
-      is = least (is_free m) (entry_count m) i (omega (arith, all m R)) (s.of m R).none
-          (λ g. eq-eqb (m.lists i) 0 (sym (R.holds.at (cell list i) g) ∙ sym ex ∙ z));
-    };
-  }
+-- what `any` over the numbers below n answers
+pub sits_some : {ws : List ℕ} {n : ℕ} (x : ℕ) (b : Bool) → n ≡ E ws
+    → MatchBool b ((k : ℕ) × (k < length (range_with_len 0 n)) × HoldsAt (λ i. sits_at ws x i ≡ true) (range_with_len 0 n) k)
+    (AllWithin (λ i. sits_at ws x i ≡ false) (range_with_len 0 n) 0 (length (range_with_len 0 n)))
+    → Says ws (GivesOf taken x b)
+unfolding taken
+sits_some {ws} {n} x b en h = record { of = λ m R. record { is = go m R b h } }
+  where
+    sits_is : (m : Mem) → Repr ws m → (i : ℕ) → i < entry_count m → sits_at ws x i ≡ sits m x i
+    sits_is m R i g = ap₂ (λ (l t : ℕ). is_held l && eqb t x) (R.holds.at (cell list i) g) (R.holds.at (cell slot i) g)
 
-  pub free_next : {x : ℕ} → i < n → x ≡ word ws (cell_at i list_col) → (x ≡ 0 → ⊥) → Says ws (Passed is_free (i + 1))
-  unfolding is_free
-  free_next h ex z = passed_next s (λ m R. ne_eqb (m.lists i) 0 (λ y. z (ex ∙ R.holds.at (cell list i) (omega (arith, all m R)) ∙ y)))
+    go : (m : Mem) → Repr ws m → (b : Bool)
+        → MatchBool b ((k : ℕ) × (k < length (range_with_len 0 n)) × HoldsAt (λ i. sits_at ws x i ≡ true) (range_with_len 0 n) k)
+        (AllWithin (λ i. sits_at ws x i ≡ false) (range_with_len 0 n) 0 (length (range_with_len 0 n)))
+        → b ≡ some (entry_count m) (sits m x)
+    go m R true h =
+        let a : n ≡ entry_count m = en ∙ R.holds.at (top 2) (omega arith) in
+        let l : h.0 < n = omega (arith, h.1, length-range_with_len 0 n) in
+        sym (some_hit (entry_count m) (sits m x) h.0 (omega arith) (sym (sits_is m R h.0 (omega arith)) ∙ some_below (λ i. sits_at ws x i ≡ true) l h.2))
+    go m R false h =
+        let a : n ≡ entry_count m = en ∙ R.holds.at (top 2) (omega arith) in
+        sym (some_miss (entry_count m) (sits m x) (λ i l. sym (sits_is m R i l) ∙ each_below (λ i. sits_at ws x i ≡ false) (omega (arith, length-range_with_len 0 n)) h i (omega (arith, length-range_with_len 0 n))))
 
-  pub free_over : i ≤ n → n ≤ i → Says ws (Gives lowest i)
-  unfolding lowest is_free
-  free_over g h = record {
-    of = λ m R. record {
-      is = least (is_free m) (entry_count m) i (omega (arith, all m R)) (s.of m R).none (λ k. absurd (omega (arith, all m R)));
-    };
-  }
-
--- ── The lowest free slot ──
-
-pub sits_in : ℕ → Mem → ℕ → Bool
-sits_in x m i = sits m x i
-
-module _ {ws : List ℕ} (x : ℕ) {i n : ℕ} (s : Says ws (Passed (sits_in x) i)) (en : n ≡ E ws) where
-  sits_is : (m : Mem) → Repr ws m → i < n → sits_at ws x i ≡ sits m x i
-  sits_is m R h = let g : i < entry_count m = omega (arith, en ∙ R.holds.at (top 2) (omega arith)) in
-      ap₂ (λ (l t : ℕ). is_held l && eqb t x) (R.holds.at (cell list i) g) (R.holds.at (cell slot i) g)
-
-  pub sits_hit : {b : Bool} → i < n → b ≡ sits_at ws x i → b ≡ true → Says ws (GivesOf taken x true)
-  unfolding taken
-  sits_hit h eb t = record {
-    of = λ m R. record {
-      is = sym (some_hit (entry_count m) (sits m x) i (omega (arith, en ∙ R.holds.at (top 2) (omega arith))) (sym (sits_is m R h) ∙ sym eb ∙ t));
-    };
-  }
-
-  pub sits_next : {b : Bool} → i < n → b ≡ sits_at ws x i → b ≡ false → Says ws (Passed (sits_in x) (i + 1))
-  unfolding sits_in
-  sits_next h eb t = passed_next s (λ m R. sym (sits_is m R h) ∙ sym eb ∙ t)
-
-  pub sits_over : n ≤ i → Says ws (GivesOf taken x false)
-  unfolding taken sits_in
-  sits_over h = record {
-    of = λ m R. record {
-      is = sym (some_miss (entry_count m) (sits m x) (λ e l. (s.of m R).none e (omega (arith, en ∙ R.holds.at (top 2) (omega arith)))));
-    };
-  }
-
--- the two returns of `sits`
-module _ (ws : List ℕ) (x i : ℕ) {j : ℕ} {b : Bool} (ej : j ≡ word ws (cell_at i list_col)) (eb : b ≡ is_held j) where
-  pub sits_yes : {t : ℕ} → b ≡ true → t ≡ word ws (cell_at i slot_col) → eqb t x ≡ sits_at ws x i
-  sits_yes z et = ap₂ (λ (h : Bool) (t : ℕ). h && eqb t x) (sym z ∙ eb ∙ ap is_held ej) et
-
-  pub sits_no : b ≡ false → false ≡ sits_at ws x i
-  sits_no z = ap (λ (h : Bool). h && eqb (word ws (cell_at i slot_col)) x) (sym z ∙ eb ∙ ap is_held ej)
-
-pub vacant : Mem → ℕ → Bool
-vacant m x = not (taken m x)
-
-module _ {ws : List ℕ} {x : ℕ} (s : Says ws (Passed vacant x)) where
-  pub slot_hit : {c : ℕ} {b : Bool} → c ≡ capacity_in ws → x < c → Says ws (GivesOf taken x b) → b ≡ false → Says ws (Gives free_slot x)
-  unfolding free_slot vacant
-  slot_hit ec h a z = record {
-    of = λ m R. record {
-      is = least (vacant m) (capacity_of m) x (omega (arith, ec ∙ R.holds.at (top 1) (omega arith))) (s.of m R).none
-          (λ g. ap not (sym (a.of m R).is ∙ z));
-    };
-  }
-
-  pub slot_next : {b : Bool} → Says ws (GivesOf taken x b) → b ≡ true → Says ws (Passed vacant (x + 1))
-  unfolding vacant
-  slot_next a z = passed_next s (λ m R. ap not (sym (a.of m R).is ∙ z))
-
-  pub slot_over : {c : ℕ} → c ≡ capacity_in ws → x ≤ c → c ≤ x → Says ws (Gives free_slot x)
-  unfolding free_slot vacant
-  slot_over ec g h = record {
-    of = λ m R. let a = ec ∙ R.holds.at (top 1) (omega arith) in record {
-      is = least (vacant m) (capacity_of m) x (omega (arith, a)) (s.of m R).none (λ k. absurd (omega (arith, a)));
-    };
-  }
+-- r is the lowest free slot
+pub slot_least : {ws : List ℕ} {c r : ℕ} → c ≡ capacity_in ws → Least (λ x. Says ws (GivesOf taken x false)) (λ x. Says ws (GivesOf taken x true)) c r → Says ws (Gives free_slot r)
+unfolding free_slot
+slot_least {c = c} {r = r} ec l = record {
+  of = λ m R. let a : c ≡ capacity_of m = ec ∙ R.holds.at (top 1) (omega arith) in record {
+    is = least (λ x. not (taken m x)) (capacity_of m) r (omega (arith, a, l.within))
+        (λ x h. ap not (sym ((l.before x h).of m R).is))
+        (λ h. ap not (sym ((l.hit (omega (arith, a))).of m R).is));
+  };
+}
 
 -- ── The held pages ──
 
--- of the entries below i, k hold a page
-pub record Tallied (i k : ℕ) (m : Mem) : Type 0 where
-  pub is : k ≡ tally i (λ x. is_held (m.lists x))
+-- how many of the n numbers from a on pass the test
+count_range : (p : ℕ → Bool) (a n : ℕ) → tally a p + length (filter p (range_with_len a n)) ≡ tally (a + n) p
+unfolding tally one_if
+count_range p a zero = omega (arith, ap (λ (x : ℕ). tally x p) (add-zero a))
+count_range p a (suc n) = go (p a) refl (count_range p (a + 1) n ∙ ap (λ (x : ℕ). tally x p) (omega arith))
+  where
+    step : tally (a + 1) p ≡ tally a p + one_if (p a)
+    step = rw add-one refl
 
-pub tally_start : {ws : List ℕ} → Says ws (Tallied 0 0)
-unfolding tally
-tally_start = record { of = λ m R. record { is = refl } }
+    go : (b : Bool) → p a ≡ b → tally (a + 1) p + length (filter p (range_with_len (a + 1) n)) ≡ tally (a + suc n) p
+        → tally a p + length (cond b (a ∷ filter p (range_with_len (a + 1) n)) (filter p (range_with_len (a + 1) n))) ≡ tally (a + suc n) p
+    go true e more = omega (arith, more, step, ap one_if e)
+    go false e more = omega (arith, more, step, ap one_if e)
 
-module _ {ws : List ℕ} {i k n : ℕ} (s : Says ws (Tallied i k)) (en : n ≡ E ws) where
-  pub tally_next : {j k' : ℕ} → i < n → j ≡ word ws (cell_at i list_col) → (b : Bool) → b ≡ is_held j → k' ≡ k + one_if b → Says ws (Tallied (i + 1) k')
-  unfolding tally
-  tally_next h ej b eb ek = record {
-    of = λ m R.
-        let l = ej ∙ R.holds.at (cell list i) (omega (arith, en ∙ R.holds.at (top 2) (omega arith))) in
-        record { is = ek ∙ rw (add-one i) (ap₂ (λ (x y : ℕ). x + y) (s.of m R).is (ap one_if (eb ∙ ap is_held l))) };
-  }
-
-  pub tally_over : i ≤ n → n ≤ i → Says ws (Gives held k)
-  unfolding held
-  tally_over g h = record {
-    of = λ m R.
-        let z : i ≡ entry_count m = omega (arith, en ∙ R.holds.at (top 2) (omega arith)) in
-        record { is = (s.of m R).is ∙ ap (λ (x : ℕ). tally x (λ y. is_held (m.lists y))) z };
-  }
+-- what `filter` and `count` over the numbers below n answer
+pub held_count : {ws : List ℕ} {n r : ℕ} → n ≡ E ws → r ≡ length (filter (λ i. is_held (word ws (cell_at i list_col))) (range_with_len 0 n)) → Says ws (Gives held r)
+unfolding held tally
+held_count {ws} {n} {r} en er = record {
+  of = λ m R.
+      let a : n ≡ entry_count m = en ∙ R.holds.at (top 2) (omega arith) in
+      let c = count_range (λ i. is_held (word ws (cell_at i list_col))) 0 n in
+      record { is = er ∙ sym (zero-add _) ∙ c ∙ ap (λ (x : ℕ). tally x (λ i. is_held (word ws (cell_at i list_col)))) (zero-add n ∙ a) ∙ alike (entry_count m) (λ i l. ap is_held (R.holds.at (cell list i) l)) };
+}
+  where
+    alike : {f g : ℕ → Bool} (n : ℕ) → ((i : ℕ) → i < n → f i ≡ g i) → tally n f ≡ tally n g
+    alike zero h = refl
+    alike (suc n) h = ap₂ (λ (x y : ℕ). x + y) (alike n (λ i l. h i (omega arith))) (ap one_if (h n (omega arith)))

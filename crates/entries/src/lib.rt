@@ -2,7 +2,7 @@
 #![tactic(auto)]
 
 ghost use Rattle.std.specs.Prelude.{◌≡◌, ◌+◌, ◌*◌, ◌<◌, ◌≤◌, length};
-ghost use Rattle.meaning.specs.Mem.{blanked, seat, filled, fill, fill_seat, enter, enter_seat, clear, lowest, held, taken, free_slot};
+ghost use Rattle.meaning.specs.Mem.{blanked, seat, filled, enter, enter_seat, clear, lowest, held, taken, free_slot};
 ghost use Rattle.invariants.specs.Places.{Ready, Turns, Says, Any};
 ghost use Rattle.cells.specs.Asked.{Within};
 ghost use Rattle.cells.specs.Told.{Gives, GivesOf};
@@ -11,24 +11,17 @@ ghost use Rattle.entries.specs.Asked.{Fresh, Admits, Placed, Kept};
 ghost use Rattle.entries.specs.Written.{sits_at};
 
 use cells::{cell, put_cell, set_mark, set_slot, word};
-use index::{Found, find, hang, unhang};
+use index::{find, hang, unhang};
 use links::{push_front, unlink};
 use settings::{CAPACITY, ENTRIES, LIST, NONE, PAGE, SLOT, is_held};
 
-// The lowest free entry, or the number of entries.
+// The lowest free entry, or the number of entries: a number and no Option, which `enter` would only unwrap.
 fn lowest_free(words: &[u32]) -> u32
     requires { Ready words.now Any }
     ensures { Says words.now (Gives lowest result) }
 {
     let n = word(words, ENTRIES);
-    let mut e = 0;
-    while e < n {
-        if cell(words, e, LIST) == 0 {
-            return e;
-        }
-        e += 1;
-    }
-    e
+    (0..n).find(|e| cell(words, *e, LIST) == 0).unwrap_or(n)
 }
 
 // Puts entry e, which is on no list, on list j by its word alone.
@@ -49,16 +42,6 @@ fn occupy(words: &mut [u32], e: u32, page: u32, s: u32)
     set_slot(words, e, s);
 }
 
-// A new page takes entry e, which is free, the front of its chain and the front of list j.
-fn enter_at(words: &mut [u32], e: u32, page: u32, j: u32, s: u32)
-    requires ready { Ready words.old (Fresh e page) }
-    requires page_bound { (page < 4294967295) × (1 ≤ j) × (j ≤ 4) }
-    ensures { Turns words.old words.new (Fresh e page) (fill e page j s) }
-{
-    occupy(words, e, page, s);
-    push_front(words, e, j);
-}
-
 // A new page takes the lowest free entry, the front of its chain and the front of list j.
 pub fn enter(words: &mut [u32], page: u32, j: u32, s: u32)
     requires ready { Ready words.old (Admits page) }
@@ -66,27 +49,19 @@ pub fn enter(words: &mut [u32], page: u32, j: u32, s: u32)
     ensures { Turns words.old words.new (Admits page) (enter page j s) }
 {
     let e = lowest_free(words);
-    enter_at(words, e, page, j, s);
-}
-
-// A new page of CLOCK takes entry e, which is free, and the front of its chain, on list 1 by its word alone.
-fn seat_at(words: &mut [u32], e: u32, page: u32, s: u32)
-    requires ready { Ready words.old (Fresh e page) }
-    requires page_bound { page < 4294967295 }
-    ensures { Turns words.old words.new (Fresh e page) (fill_seat e page s) }
-{
     occupy(words, e, page, s);
-    seat(words, e, 1);
+    push_front(words, e, j);
 }
 
-// A new page of CLOCK takes the lowest free entry and the front of its chain, on list 1 by its word alone.
+// A new page of CLOCK takes the lowest free entry and the front of its chain, on list 1 by its word alone. Apart from `enter` in its last line, for which a closure would need the clauses of both.
 pub fn enter_seat(words: &mut [u32], page: u32, s: u32)
     requires ready { Ready words.old (Admits page) }
     requires page_bound { page < 4294967295 }
     ensures { Turns words.old words.new (Admits page) (enter_seat page s) }
 {
     let e = lowest_free(words);
-    seat_at(words, e, page, s);
+    occupy(words, e, page, s);
+    seat(words, e, 1);
 }
 
 // Takes the slot and the mark from entry e.
@@ -114,11 +89,9 @@ pub fn remove(words: &mut [u32], e: u32)
     ensures { Turns words.old words.new (Kept e) (clear e) }
 {
     let page = cell(words, e, PAGE);
-    let f = find(words, page);
-    let Found::At(_, a) = f else {
-        return;
-    };
-    clear(words, e, a);
+    if let Some(found) = find(words, page) {
+        clear(words, e, found.before);
+    }
 }
 
 // The number of held pages.
@@ -128,16 +101,7 @@ pub fn held(words: &[u32]) -> u32
     ensures upper_bound { result ≤ 1024 }
 {
     let n = word(words, ENTRIES);
-    let mut k = 0;
-    let mut i = 0;
-    while i < n {
-        let j = cell(words, i, LIST);
-        if is_held(j) {
-            k += 1;
-        }
-        i += 1;
-    }
-    k
+    (0..n).filter(|i| is_held(cell(words, *i, LIST))).count() as u32
 }
 
 // Whether entry i holds a page in slot s.
@@ -145,11 +109,7 @@ fn sits(words: &[u32], i: u32, s: u32) -> bool
     requires { 16 + 8 * i + 8 ≤ length words.now }
     ensures { result ≡ sits_at words.now s i }
 {
-    let j = cell(words, i, LIST);
-    if is_held(j) {
-        return cell(words, i, SLOT) == s;
-    }
-    false
+    is_held(cell(words, i, LIST)) && cell(words, i, SLOT) == s
 }
 
 // Whether a held page has the slot s.
@@ -158,28 +118,14 @@ fn taken(words: &[u32], s: u32) -> bool
     ensures { Says words.now (GivesOf taken s result) }
 {
     let n = word(words, ENTRIES);
-    let mut i = 0;
-    while i < n {
-        if sits(words, i, s) {
-            return true;
-        }
-        i += 1;
-    }
-    false
+    (0..n).any(|i| sits(words, i, s))
 }
 
-// The lowest slot below C that no held page has, or C.
+// The lowest slot below C that no held page has, or C: a number and no Option, since `free_slot` of `meaning`, which the clause cites, is one.
 pub fn lowest_free_slot(words: &[u32]) -> u32
     requires { Ready words.now Any }
     ensures { Says words.now (Gives free_slot result) }
 {
     let c = word(words, CAPACITY);
-    let mut s = 0;
-    while s < c {
-        if !taken(words, s) {
-            return s;
-        }
-        s += 1;
-    }
-    s
+    (0..c).find(|s| !taken(words, *s)).unwrap_or(c)
 }

@@ -8,21 +8,21 @@ use native.Mathlib.Numerals.{add-one}
 use lib.ListN.{length, drop, set, length-map}
 use lib.Seq.{sets, sets-eq}
 use borrow.Author.Tests.{eq-eqb, eqb-true, lt-ltb, le-ltb, not-true, not-false}
-use Rattle.meaning.specs.declared.Reported.TheVariants as report
+use Rattle.std.specs.Prelude.{Ok, Err}
+use Rattle.meaning.specs.declared.Refusal.TheVariants.{Unsound, NoSuchList, TooShort}
 use Rattle.meaning.specs.Base.{first, series}
 use Rattle.meaning.specs.Layout.{is_clock, is_held, is_list}
 use Rattle.meaning.specs.Mem.{Mem, decode, size, held, sits, entry_count, policy_in, policy_of}
 use Rattle.invariants.specs.Places.{top, cell, page, Repr, Says}
 use Rattle.meaning.specs.Rules.{page_in, sound}
 use Rattle.invariants.specs.Whole.{Whole}
-use Rattle.meaning.proofs.Injective.{as_struct}
-use Rattle.meaning.specs.Calls.{plain, gave, refuse, over, page_in_slot, pages_on, reported}
+use Rattle.meaning.specs.Calls.{gave, refuse, over, page_in_slot, pages_on, reported}
 use Rattle.invariants.proofs.Numbers.{first_hit}
 use Rattle.invariants.proofs.Unique.{below, order_read}
 use Rattle.lists.specs.Told.{Gives, GivesOf, Shorter, Copied}
 use Rattle.invariants.proofs.Numbered.{held_used}
 use Rattle.invariants.proofs.Series.{length_series, series_same}
-use Rattle.invariants.proofs.Tests.{and_left, and_right, both, yes, no}
+use Rattle.invariants.proofs.Tests.{and_left, and_right, both}
 use Rattle.sound.proofs.Door.{door}
 use Rattle.form_look_report.specs.Reports.{pages_of, ReportedAs}
 
@@ -134,7 +134,7 @@ module _ (ws : List ℕ) (s : sound ws ≡ true) where
 
 module _ (ws : List ℕ) (j : ℕ) (buffer : List ℕ) where
   -- The words are not a sound directory.
-  pub report_unsound : sound ws ≡ false → ReportedAs ws j buffer (report.Refused (as_struct (plain 5))) buffer
+  pub report_unsound : sound ws ≡ false → ReportedAs ws j buffer (Err Unsound) buffer
   unfolding reported refuse
   report_unsound s = record { answer = simp s; memory = simp s }
 
@@ -143,21 +143,21 @@ module _ (ws : List ℕ) (j : ℕ) (buffer : List ℕ) where
     uses = eb ∙ ap (λ (q : ℕ). is_list q j) (ep ∙ policy_is ws s)
 
     -- The list is none of the policy's.
-    pub report_unlisted : not b ≡ true → ReportedAs ws j buffer (report.Refused (as_struct (plain 9))) buffer
+    pub report_unlisted : b ≡ false → ReportedAs ws j buffer (Err NoSuchList) buffer
     unfolding reported refuse
-    report_unlisted l = let u = no uses l in record { answer = simp (s, u); memory = simp (s, u) }
+    report_unlisted l = let u = sym uses ∙ l in record { answer = simp (s, u); memory = simp (s, u) }
 
-    module _ (l : not b ≡ false) {n : ℕ} (en : n ≡ length (pages_of ws j)) where
+    module _ (l : b ≡ true) {n : ℕ} (en : n ≡ length (pages_of ws j)) where
       -- The buffer is shorter than the list.
-      pub report_short : length buffer < n → ReportedAs ws j buffer (report.Refused (as_struct (plain 8))) buffer
+      pub report_short : length buffer < n → ReportedAs ws j buffer (Err TooShort) buffer
       unfolding reported refuse
       report_short h =
-          let u = yes uses l in let t = lt-ltb (length buffer) (length (pages_of ws j)) (rw en at h) in
+          let u = sym uses ∙ l in let t = lt-ltb (length buffer) (length (pages_of ws j)) (rw en at h) in
           record { answer = simp (s, u, t); memory = simp (s, u, t) }
 
       -- The list is written.
-      pub report_gives : {result : List ℕ} → n ≤ length buffer → result ≡ over (pages_of ws j) buffer → ReportedAs ws j buffer (report.Count n) result
+      pub report_gives : {result : List ℕ} → n ≤ length buffer → result ≡ over (pages_of ws j) buffer → ReportedAs ws j buffer (Ok n) result
       unfolding reported
       report_gives h w =
-          let u = yes uses l in let t = le-ltb (length buffer) (length (pages_of ws j)) (rw en at h) in
+          let u = sym uses ∙ l in let t = le-ltb (length buffer) (length (pages_of ws j)) (rw en at h) in
           record { answer = simp (s, u, t) (ap gave en); memory = w ∙ sym (simp (s, u, t)) }

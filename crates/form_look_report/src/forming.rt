@@ -1,46 +1,36 @@
 // Forming a directory: `form`, and the length that it asks.
-ghost use Rattle.form_look_report.specs.Forms.{FormedAs, LongAs};
+ghost use Rattle.std.specs.Prelude.{◌≡◌, ◌≤◌, IfOk};
+ghost use Rattle.meaning.specs.Answers.{asked, number_says};
+ghost use Rattle.form_look_report.specs.Forms.{FormedAs, LongAs, entries_for};
 
 use lists::form_fresh;
-use meaning::{Formed, Refusal, WRONG_LENGTH, WordsFor};
-use settings::{bits_of, entries_of, length_for, settings_refusal};
+use meaning::{Refusal, Settings};
+use settings::{accepted, bits_of, entries_of, length_for};
+
+// How many entries a directory of settings has, or the refusal, 1 to 3, of the settings.
+fn entries_for(settings: Settings) -> Result<usize, Refusal>
+    ensures counted { number_says result ≡ entries_for (asked settings) }
+    ensures few { IfOk result (λ n. n ≤ 1024) }
+{
+    accepted(settings)?;
+    Ok(entries_of(settings))
+}
 
 // Writes the fresh directory of settings over whatever was there; a refusal, 1 to 4, changes no word.
-pub fn form(policy: u32, capacity: u32, first: u32, second: u32, words: &mut [u32]) -> Formed
-    ensures { FormedAs policy capacity first second words.old result words.new }
+pub fn form(settings: Settings, words: &mut [u32]) -> Result<(), Refusal>
+    ensures { FormedAs (asked settings) words.old result words.new }
 {
-    let refusal = settings_refusal(policy, capacity, first, second);
-    if refusal != 0 {
-        return Formed::Refused(Refusal {
-            number: refusal,
-            carried: 0,
-        });
-    }
-    let entries = entries_of(policy, capacity, second);
+    let entries = entries_for(settings)?;
     if words.len() != length_for(entries) {
-        return Formed::Refused(WRONG_LENGTH);
+        return Err(Refusal::WrongLength);
     }
-    let bits = bits_of(entries);
-    form_fresh(
-        words,
-        policy,
-        capacity,
-        entries as u32,
-        bits as u32,
-        first,
-        second,
-    );
-    Formed::Done
+    form_fresh(words, settings, entries as u32, bits_of(entries) as u32);
+    Ok(())
 }
 
 // The length of the words that `form` asks for settings, or the refusal, 1 to 3, that it gives to them.
-pub fn words_for(policy: u32, capacity: u32, first: u32, second: u32) -> WordsFor
-    ensures { LongAs policy capacity first second result }
+pub fn words_for(settings: Settings) -> Result<u32, Refusal>
+    ensures { LongAs (asked settings) result }
 {
-    let number = settings_refusal(policy, capacity, first, second);
-    if number != 0 {
-        return WordsFor::Refused(Refusal { number, carried: 0 });
-    }
-    let n = length_for(entries_of(policy, capacity, second));
-    WordsFor::Count { words: n as u32 }
+    Ok(length_for(entries_for(settings)?) as u32)
 }

@@ -6,9 +6,9 @@ ghost use Rattle.meaning.specs.Calls.{over};
 ghost use Rattle.form_look_report.specs.Reports.{pages_of, ReportedAs};
 
 use lists::{cell, held, size, word, write_pages};
-use meaning::{NO_SUCH_LIST, Reported, TOO_SHORT, UNSOUND};
+use meaning::Refusal;
 use settings::{PAGE, POLICY, has_order, is_list};
-use sound::audit;
+use sound::checked;
 
 // How many pages are reported of a list: for CLOCK the held ones.
 fn count_on(words: &[u32], list: u32) -> u32
@@ -27,10 +27,8 @@ fn write_first(words: &[u32], n: u32, res: &mut [u32])
     requires { (16 + 8 * n ≤ length words.now) × (n ≤ length res.old) }
     ensures { res.new ≡ over (series (page_in words.now) n 0) res.old }
 {
-    let mut i = 0;
-    while i < n {
+    for i in 0..n {
         res[i as usize] = cell(words, i, PAGE);
-        i += 1;
     }
 }
 
@@ -48,20 +46,18 @@ fn write_list(words: &[u32], list: u32, n: u32, res: &mut [u32])
     write_first(words, n, res);
 }
 
-// Writes the pages of a list and answers how many, or refuses 5, 9 or 8; words past the pages stay.
-pub fn report(words: &[u32], list: u32, res: &mut [u32]) -> Reported
+// Writes the pages of a list and answers how many, or refuses 5, 9 or 8; words past the pages stay in the buffer, which is lent, as there is no heap.
+pub fn report(words: &[u32], list: u32, res: &mut [u32]) -> Result<u32, Refusal>
     ensures { ReportedAs words.now list res.old result res.new }
 {
-    if !audit(words) {
-        return Reported::Refused(UNSOUND);
-    }
+    checked(words)?;
     if !is_list(word(words, POLICY), list) {
-        return Reported::Refused(NO_SUCH_LIST);
+        return Err(Refusal::NoSuchList);
     }
     let n = count_on(words, list);
     if res.len() < n as usize {
-        return Reported::Refused(TOO_SHORT);
+        return Err(Refusal::TooShort);
     }
     write_list(words, list, n, res);
-    Reported::Count { pages: n }
+    Ok(n)
 }

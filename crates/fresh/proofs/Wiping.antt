@@ -5,11 +5,11 @@ use mathlib.Core.Bool.{◌||◌, cond}
 use mathlib.Core.List.{List, [], ◌∷◌, ◌++◌}
 use native.Mathlib.Omega.{arith}
 use lib.Dec.{eqb, leb}
-use lib.ListN.{length, get_or, drop, set, length-set}
-use lib.Seq.{get_or-set_same, get_or-set_other, sets-eq}
+use lib.ListN.{length, get_or, drop, length-set}
+use lib.Seq.{sets-eq}
 use borrow.Author.Tests.{eq-eqb, ne_eqb, lt-ltb, le-ltb, le-leb, lt-leb}
 use Rattle.meaning.specs.Neighbours.{NONE, behind, ahead}
-use Rattle.meaning.specs.Layout.{four, entries_of, bits_of}
+use Rattle.meaning.specs.Layout.{Settings, entries_of, bits_of}
 use Rattle.meaning.specs.Mem.{word, settings_top, empty, fresh}
 use Rattle.invariants.specs.Places.{page, list, slot, prev, next, chain, mark, spare, Place, top, head, tail, bucket, end, cell, Valid, addr, Holds, image}
 use Rattle.invariants.proofs.Lists.{split}
@@ -51,22 +51,6 @@ pub record Wiping (ws : List ℕ) (n i : ℕ) (ws' : List ℕ) : Type 0 where
   pub kept : (a : ℕ) → a < 7 → word ws' a ≡ word ws a
   pub wiped : (a : ℕ) → 7 ≤ a → a < i → word ws' a ≡ blank n a
 
-pub wipe_start : (ws : List ℕ) (n : ℕ) → Wiping ws n 7 ws
-wipe_start ws n = record { from = omega arith; long = refl; kept = λ a h. refl; wiped = λ a h g. absurd (omega arith) }
-
-pub wipe_next : {ws ws' ws'' : List ℕ} {n i v : ℕ} → Wiping ws n i ws' → i < length ws' → v ≡ blank n i → ws'' ≡ set ws' i v → Wiping ws n (i + 1) ws''
-wipe_next {ws} {ws'} {ws''} {n} {i} {v} w h e s = rw s record {
-  from = omega arith;
-  long = simp length-set w.long;
-  kept = λ a g. get_or-set_other ws' i a v 0 (omega arith) ∙ w.kept a g;
-  wiped = λ a g k. split a i
-      (λ z t. rw z (get_or-set_same ws' i v 0 h ∙ e))
-      (λ z t. get_or-set_other ws' i a v 0 z ∙ w.wiped a g (omega arith));
-}
-
-pub wipe_over : {ws ws' : List ℕ} {n i : ℕ} → Wiping ws n i ws' → length ws' ≤ i → Wiped ws n ws'
-wipe_over w h = record { long = w.long; kept = w.kept; wiped = λ a g k. w.wiped a g (omega (arith, w.long)) }
-
 -- words that are wiped behind the header t are an empty directory's
 module _ (ws : List ℕ) (t : ℕ → ℕ) (size : length ws ≡ 16 + 8 * t 2 + 2 ^ t 3)
     (tops : (a : ℕ) → a < 7 → word ws a ≡ t a) (rest : (a : ℕ) → 7 ≤ a → a < length ws → word ws a ≡ blank (t 2) a) where
@@ -100,16 +84,16 @@ module _ (ws : List ℕ) (t : ℕ → ℕ) (size : length ws ≡ 16 + 8 * t 2 + 
       at (cell spare i) h = there i 7 h (omega arith)
 
 -- the words that `form_fresh` leaves
-pub form_words : {ws ws₁ ws₂ : List ℕ} {E k : ℕ} (p c f s : ℕ) → Fits p c E k s ws → ws₁ ≡ headed ws p c E k f s → Wiped ws₁ E ws₂ → ws₂ ≡ fresh_words p c f s
+pub form_words : {ws ws₁ ws₂ : List ℕ} {E k : ℕ} (s : Settings) → Fits s E k ws → ws₁ ≡ headed ws s E k → Wiped ws₁ E ws₂ → ws₂ ≡ fresh_words s
 unfolding fresh settings_top entries_of empty bits_of
-form_words {ws} {ws₁} {ws₂} {E} {k} p c f s o eq w =
-    settles (t 2) (t 3) ws₂ (fresh_words p c f s) (image (empty t)) (empty_holds ws₂ t size tops rest) (words_hold (empty t))
+form_words {ws} {ws₁} {ws₂} {E} {k} s o eq w =
+    settles (t 2) (t 3) ws₂ (fresh_words s) (image (empty t)) (empty_holds ws₂ t size tops rest) (words_hold (empty t))
   where
     t : ℕ → ℕ
-    t = settings_top (four p c f s)
+    t = settings_top s
 
     header : List ℕ
-    header = p ∷ c ∷ E ∷ k ∷ f ∷ s ∷ 0 ∷ []
+    header = s.policy ∷ s.C ∷ E ∷ k ∷ s.first ∷ s.second ∷ 0 ∷ []
 
     two : E ≡ t 2
     two = o.entries

@@ -2,30 +2,24 @@
 #![tactic(auto)]
 
 ghost use Rattle.std.specs.Prelude.{◌≡◌, ◌≤◌, length};
+ghost use Rattle.meaning.specs.Answers.{asked};
 ghost use Rattle.fresh.specs.Written.{headed, blank, Wiped, Fits, fresh_words};
 
 use cells::put;
+use meaning::Settings;
 use settings::{BITS, CAPACITY, END, ENTRIES, FIRST, LIST, MARK, NONE, POLICY, SECOND, WORD6};
 
 // Writes header words 0 to 6.
-fn put_settings(
-    words: &mut [u32],
-    policy: u32,
-    capacity: u32,
-    entries: u32,
-    bits: u32,
-    first: u32,
-    second: u32,
-)
+fn put_settings(words: &mut [u32], settings: Settings, entries: u32, bits: u32)
     requires { 7 ≤ length words.old }
-    ensures { words.new ≡ headed words.old policy capacity entries bits first second }
+    ensures { words.new ≡ headed words.old (asked settings) entries bits }
 {
-    put(words, POLICY, policy);
-    put(words, CAPACITY, capacity);
+    put(words, POLICY, settings.policy);
+    put(words, CAPACITY, settings.capacity);
     put(words, ENTRIES, entries);
     put(words, BITS, bits);
-    put(words, FIRST, first);
-    put(words, SECOND, second);
+    put(words, FIRST, settings.first);
+    put(words, SECOND, settings.second);
     put(words, WORD6, 0);
 }
 
@@ -56,26 +50,16 @@ fn blank_word(n: u32, a: usize) -> u32
 fn wipe(words: &mut [u32], n: u32)
     ensures { Wiped words.old n words.new }
 {
-    let mut i = 7;
-    while i < words.len() {
+    for i in 7..words.len() {
         put(words, i, blank_word(n, i));
-        i += 1;
     }
 }
 
 // Writes the fresh directory of settings, with its entries E and index bits k.
-pub fn form_fresh(
-    words: &mut [u32],
-    policy: u32,
-    capacity: u32,
-    entries: u32,
-    bits: u32,
-    first: u32,
-    second: u32,
-)
-    requires { Fits policy capacity entries bits second words.old }
-    ensures { words.new ≡ fresh_words policy capacity first second }
+pub fn form_fresh(words: &mut [u32], settings: Settings, entries: u32, bits: u32)
+    requires { Fits (asked settings) entries bits words.old }
+    ensures { words.new ≡ fresh_words (asked settings) }
 {
-    put_settings(words, policy, capacity, entries, bits, first, second);
+    put_settings(words, settings, entries, bits);
     wipe(words, entries);
 }

@@ -1,71 +1,66 @@
 -- The walk along the chain of a page.
-use Prim.Native.Nat.{ℕ, ◌+◌, ◌*◌, ◌≤◌}
+use Prim.Native.Nat.{ℕ, ◌<◌}
 use mathlib.Core.Path.{◌≡◌, refl, sym, ap, ◌∙◌}
-use mathlib.Core.List.{List, []}
+use mathlib.Core.Bool.{true, or-true}
+use mathlib.Core.List.{List, [], ◌∷◌}
 use native.Mathlib.Omega.{arith}
-use lib.ListN.{length}
 use borrow.Author.Tests.{eq-eqb, ne_eqb}
-use Rattle.index.specs.declared.Found.TheVariants.{At, Nothing}
-use Rattle.meaning.specs.Neighbours.{NONE}
+use Rattle.std.specs.Prelude.{Option, Some, None}
+use Rattle.index.specs.declared.Found.{Found}
+use Rattle.meaning.specs.Neighbours.{NONE, has}
 use Rattle.meaning.specs.Layout.{cell_at, chain_col, page_col}
 use Rattle.meaning.specs.Mem.{Mem, home, word, E, entry_count}
 use Rattle.invariants.specs.Places.{top, bucket, cell, page, chain, Repr, Ready, Says}
 use Rattle.invariants.proofs.Chained.{bucket_lt}
-use Rattle.cells.proofs.Ways.{Way, start, Step, onward, step, none_left, all_passed}
-use Rattle.index.specs.Told.{look_in, lookup, Answers}
+use Rattle.invariants.proofs.Lists.{eqb_same}
+use Rattle.cells.specs.Trail.{trail, Readable}
+use Rattle.cells.proofs.Trails.{trail_whole}
+use Rattle.index.specs.Told.{Chains, look_in, lookup, Answers}
 use Rattle.index.specs.Written.{bucket_on}
 
--- k entries of the chain of p were passed, a the last, and none of them has the page
-pub record Walk (p a i k : ℕ) (m : Mem) : Type 0 where
-  pub way : Way (m.chained (home m p)) i k
-  pub same : lookup m p ≡ look_in m.pages a way.rest p
+-- what the links lead through from the bucket of p on, as many as there are entries, is the chain of p, and its words may be read
+walked : {ws : List ℕ} {b i n : ℕ} (p : ℕ) (m : Mem) → Repr ws m → b ≡ bucket_on ws p → i ≡ word ws b → n ≡ E ws
+    → (trail ws chain_col n i ≡ m.chained (home m p)) × Readable ws (trail ws chain_col n i)
+walked {ws} {b} {i} {n} p m R eb ei en =
+    let a : n ≡ entry_count m = en ∙ R.holds.at (top 2) (omega arith) in
+    rw a (trail_whole ws chain_col (entry_count m) R.fine.few (omega (arith, R.holds.size)) m.chained (λ i. home m (m.pages i)) R.fine.chains
+    (λ i h. R.holds.at (cell chain i) h) (home m p)
+    (ei ∙ rw (eb, R.holds.at (top 2) (omega arith), R.holds.at (top 3) (omega arith)) (R.holds.at (bucket (home m p)) (bucket_lt _ p R.fine.bits))))
 
-on_chain : {ws : List ℕ} (p : ℕ) {i k : ℕ} (m : Mem) → Repr ws m → (w : Way (m.chained (home m p)) i k) → (i ≡ NONE → ⊥) → Step ws chain_col (entry_count m) w.rest i
-on_chain {ws} p m R = step ws chain_col (entry_count m) R.fine.few m.chained (λ i. home m (m.pages i)) R.fine.chains (λ i h. R.holds.at (cell chain i) h) (home m p)
+pub walk_readable : {ws : List ℕ} {ok : Mem → Type 0} {b i n : ℕ} (p : ℕ) → Ready ws ok → b ≡ bucket_on ws p → i ≡ word ws b → n ≡ E ws → Readable ws (trail ws chain_col n i)
+walk_readable p o eb ei en = (walked p o.mem o.repr eb ei en).1
 
-nothing_left : {p a i k : ℕ} (m : Mem) (w : Walk p a i k m) → w.way.rest ≡ [] → Answers p Nothing m
+pub walk_chains : {ws : List ℕ} {b i n : ℕ} (p : ℕ) → b ≡ bucket_on ws p → i ≡ word ws b → n ≡ E ws → Says ws (Chains p (trail ws chain_col n i))
+walk_chains p eb ei en = record { of = λ m R. record { is = (walked p m R eb ei en).0 } }
+
+-- the page that the words say of entry i
+abbrev pub page_at : List ℕ → ℕ → ℕ
+page_at ws i = word ws (cell_at i page_col)
+
+-- one entry looked at: it has the page, or the search goes on behind it
+pub look_hit : (g : ℕ → ℕ) (p a e : ℕ) (M : List ℕ) → g e ≡ p → look_in g a (e ∷ M) p ≡ Some (record { entry = e; before = a })
 unfolding look_in
-nothing_left {p} {a} m w e = record { is = sym (w.same ∙ ap (λ (r : List ℕ). look_in m.pages a r p) e) }
+look_hit g p a e M h = simp (eq-eqb (g e) p h)
 
-pub walk_start : {ws : List ℕ} {p a i b : ℕ} → a ≡ NONE → b ≡ bucket_on ws p → i ≡ word ws b → Says ws (Walk p a i 0)
-unfolding lookup
-walk_start {p = p} ea eb ei = record {
+pub look_past : (g : ℕ → ℕ) (p a e : ℕ) (M : List ℕ) → (g e ≡ p → ⊥) → look_in g a (e ∷ M) p ≡ look_in g e M p
+unfolding look_in
+look_past g p a e M h = simp (ne_eqb (g e) p h)
+
+pub look_end : (g : ℕ → ℕ) (p a : ℕ) → look_in g a [] p ≡ None
+unfolding look_in
+look_end g p a = refl
+
+-- what is found among the words is what the directory says
+pub found_by : {ws : List ℕ} {p : ℕ} {L : List ℕ} {r : Option Found} → Says ws (Chains p L) → r ≡ look_in (page_at ws) NONE L p → Says ws (Answers p r)
+unfolding look_in lookup has
+found_by {ws} {p} {L} s e = record {
   of = λ m R. record {
-    way = start (ei ∙ rw (eb, R.holds.at (top 2) (omega arith), R.holds.at (top 3) (omega arith)) (R.holds.at (bucket (home m p)) (bucket_lt _ p R.fine.bits)));
-    same = rw ea refl;
+    is = e
+        ∙ alike m R NONE L (λ i h. (R.fine.chains.member (home m p) i (ap (λ (K : List ℕ). has K i) (sym (s.of m R).is) ∙ h)).0)
+        ∙ ap (λ (K : List ℕ). look_in m.pages NONE K p) (s.of m R).is;
   };
 }
-
-module _ {ws : List ℕ} {p a i k : ℕ} where
-  pub walk_none : Says ws (Walk p a i k) → i ≡ NONE → Says ws (Answers p Nothing)
-  walk_none s z = record {
-    of = λ m R. let w = s.of m R in nothing_left m w
-        (none_left ws chain_col (entry_count m) R.fine.few m.chained (λ i. home m (m.pages i)) R.fine.chains (λ i h. R.holds.at (cell chain i) h) (home m p) w.way z);
-  }
-
-  pub walk_over : {n : ℕ} → Says ws (Walk p a i k) → n ≡ E ws → n ≤ k → Says ws (Answers p Nothing)
-  walk_over s en h = record {
-    of = λ m R. let w = s.of m R in nothing_left m w
-        (all_passed ws chain_col (entry_count m) R.fine.few m.chained (λ i. home m (m.pages i)) R.fine.chains (λ i h. R.holds.at (cell chain i) h) (home m p) w.way
-        (omega (arith, en ∙ R.holds.at (top 2) (omega arith))));
-  }
-
-  pub walk_room : {ok : Mem → Type 0} → Ready ws ok → Says ws (Walk p a i k) → (i ≡ NONE → ⊥) → 16 + 8 * i + 8 ≤ length ws
-  walk_room o s h = omega (arith, o.repr.holds.size, (on_chain p o.mem o.repr (s.of o.mem o.repr).way h).real)
-
-  pub walk_hit : {x : ℕ} → Says ws (Walk p a i k) → (i ≡ NONE → ⊥) → x ≡ word ws (cell_at i page_col) → x ≡ p → Says ws (Answers p (At i a))
-  unfolding look_in
-  walk_hit s h ex e = record {
-    of = λ m R. let w = s.of m R in let t = on_chain p m R w.way h in
-        record { is = sym (w.same ∙ rw t.is (simp (eq-eqb (m.pages i) p (sym (R.holds.at (cell page i) t.real) ∙ sym ex ∙ e)))) };
-  }
-
-  pub walk_next : {i' x : ℕ} → Says ws (Walk p a i k) → (i ≡ NONE → ⊥) → x ≡ word ws (cell_at i page_col) → (x ≡ p → ⊥) → i' ≡ word ws (cell_at i chain_col) → Says ws (Walk p i i' (k + 1))
-  unfolding look_in
-  walk_next s h ex n en = record {
-    of = λ m R. let w = s.of m R in let t = on_chain p m R w.way h in record {
-      way = onward w.way t en;
-      same = w.same ∙ ap (λ (r : List ℕ). look_in m.pages a r p) t.is
-          ∙ simp (ne_eqb (m.pages i) p (λ z. n (ex ∙ R.holds.at (cell page i) t.real ∙ z)));
-    };
-  }
+  where
+    alike : (m : Mem) → Repr ws m → (a : ℕ) (L : List ℕ) → ((i : ℕ) → has L i ≡ true → i < entry_count m) → look_in (page_at ws) a L p ≡ look_in m.pages a L p
+    alike m R a [] h = refl
+    alike m R a (x ∷ L) h = simp (R.holds.at (cell page x) (h x (simp (eqb_same x))), alike m R x L (λ i g. h i (simp g (or-true _))))

@@ -5,17 +5,19 @@ ghost use Rattle.std.specs.Prelude.{◌≡◌, ◌<◌, length};
 ghost use Rattle.meaning.specs.Mem.{hang, unhang};
 ghost use Rattle.invariants.specs.Places.{Ready, Turns, Says, Any};
 ghost use Rattle.index.specs.Asked.{Bare, Hung};
-ghost use Rattle.index.specs.Told.{Answers};
+ghost use Rattle.cells.specs.Trail.{Readable};
+ghost use Rattle.cells.specs.Steps.{steps};
+ghost use Rattle.index.specs.Told.{Chains, Answers};
 ghost use Rattle.index.specs.Written.{bucket_on};
 
-use cells::{cell, link_at, put, put_cell, word};
+use cells::{Walk, cell, link_at, put, put_cell, word};
 use settings::{BITS, CHAIN, ENTRIES, NONE, PAGE, bucket_of};
 
-// An entry, and the one in front of it on its chain, or NONE.
-#[derive(Clone, Copy)]
-pub enum Found {
-    At(u32, u32),
-    Nothing,
+// An entry, and the one in front of it on its chain, or NONE, as the words have it: `unhang` writes by it.
+#[derive(Clone, Copy, Debug, PartialEq, Eq)]
+pub struct Found {
+    pub entry: u32,
+    pub before: u32,
 }
 
 // Where the word of a page's bucket stands.
@@ -29,28 +31,34 @@ fn bucket_at(words: &[u32], page: u32) -> usize
     16 + 8 * (n as usize) + b
 }
 
+// The entries of the chain of a page, front first.
+fn chained(words: &[u32], page: u32) -> Walk<'_>
+    requires { Ready words.now Any }
+    ensures chains { Says words.now (Chains page (steps result)) }
+    ensures readable { Readable words.now (steps result) }
+{
+    let b = bucket_at(words, page);
+    Walk {
+        words,
+        link: CHAIN,
+        next: word(words, b),
+        left: word(words, ENTRIES),
+    }
+}
+
 // The entry of a page and the one in front of it on its chain, or that there is none.
-pub fn find(words: &[u32], page: u32) -> Found
+pub fn find(words: &[u32], page: u32) -> Option<Found>
     requires { Ready words.now Any }
     ensures { Says words.now (Answers page result) }
 {
-    let b = bucket_at(words, page);
-    let n = word(words, ENTRIES);
-    let mut a = NONE;
-    let mut i = word(words, b);
-    let mut k = 0;
-    while k < n {
-        if i == NONE {
-            return Found::Nothing;
+    let mut before = NONE;
+    for entry in chained(words, page) {
+        if cell(words, entry, PAGE) == page {
+            return Some(Found { entry, before });
         }
-        if cell(words, i, PAGE) == page {
-            return Found::At(i, a);
-        }
-        a = i;
-        i = cell(words, i, CHAIN);
-        k += 1;
+        before = entry;
     }
-    Found::Nothing
+    None
 }
 
 // Gives entry e, which has none, a page, and puts it at the front of the page's chain.

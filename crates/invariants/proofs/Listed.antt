@@ -1,12 +1,12 @@
 -- Rules d and g at one list or bucket, taken apart and put together; and what is left of a walk in a turn of the loop that checks it.
-use mathlib.Core.Path.{◌≡◌, refl, ap, sym, ◌∙◌}
-use mathlib.Core.Bool.{Bool, true, false, ◌&&◌}
+use mathlib.Core.Path.{◌≡◌, ap, sym, ◌∙◌}
+use mathlib.Core.Bool.{Bool, true, ◌&&◌}
 use mathlib.Core.List.{List, [], ◌∷◌}
 use Prim.Native.Nat.{ℕ, ◌+◌, ◌-◌, ◌≤◌, ◌<◌}
 use native.Mathlib.Omega.{arith}
 use lib.ListN.{length}
 use lib.Dec.{eqb, leb, ltb}
-use borrow.Author.Tests.{eq-eqb, ne_eqb, eqb-true, ltb-true, lt-ltb, leb-true, le-leb}
+use borrow.Author.Tests.{eq-eqb, eqb-true, ltb-true, lt-ltb, leb-true, le-leb}
 use Rattle.meaning.specs.Base.{all, last_or, walk}
 use Rattle.meaning.specs.Neighbours.{NONE, has, Nodup}
 use Rattle.meaning.specs.Layout.{head_at, tail_at}
@@ -15,7 +15,7 @@ use Rattle.meaning.specs.Rules.{distinct, list_in, previous_in, next_in, on, wit
 use Rattle.invariants.proofs.Tests.{and_left, and_right, both, three}
 use Rattle.invariants.proofs.Numbers.{tally_le}
 use Rattle.invariants.proofs.Counted.{all_at, nodup_distinct, distinct_nodup}
-use Rattle.invariants.proofs.Walks.{walk_step, walk_stop, walk_on, once}
+use Rattle.invariants.proofs.Walks.{walk_step, walk_stop, once}
 
 -- A walk visits only numbers below n that pass the test, each once, and then NONE.
 pub record Kept (n : ℕ) (f : ℕ → Bool) (l : List ℕ) : Type 0 where
@@ -44,10 +44,6 @@ pub record Trail (n : ℕ) (f : ℕ → Bool) (next : ℕ → ℕ) (start e left
   pub most : left ≤ n + 1
   pub only : all (within n f) (walk NONE (n + 1) next start) ≡ all (within n f) (walk NONE left next e)
   pub steps : length (walk NONE (n + 1) next start) + left ≡ n + 1 + length (walk NONE left next e)
-
--- Before the first turn.
-pub trail_start : (n : ℕ) (f : ℕ → Bool) (next : ℕ → ℕ) (start : ℕ) → Trail n f next start start (n + 1)
-trail_start n f next start = record { most = omega arith; only = refl; steps = omega arith }
 
 module _ {n : ℕ} {f : ℕ → Bool} {next : ℕ → ℕ} {start e left : ℕ} (r : Trail n f next start e left) where
   -- no step is left, and e is not NONE
@@ -90,49 +86,6 @@ module _ {n : ℕ} {f : ℕ → Bool} {next : ℕ → ℕ} {start e left : ℕ} 
           ends = omega (arith, all_steps);
         }
 
--- In a turn of a search for i along a walk that is known to be right: e is next.
-pub record Ahead (n : ℕ) (f : ℕ → Bool) (next : ℕ → ℕ) (start i e : ℕ) : Type 0 where
-  pub same : has (walk NONE (n + 1) next start) i ≡ has (walk NONE (n + 1) next e) i
-  pub only : all (within n f) (walk NONE (n + 1) next e) ≡ true
-  pub ends : length (walk NONE (n + 1) next e) ≤ n
-
--- Before the first turn.
-pub ahead_start : (n : ℕ) (f : ℕ → Bool) (next : ℕ → ℕ) (start i : ℕ) → Kept n f (walk NONE (n + 1) next start) → Ahead n f next start i start
-ahead_start n f next start i k = record { same = refl; only = k.only; ends = k.ends }
-
-module _ {n : ℕ} {f : ℕ → Bool} {next : ℕ → ℕ} {start i e : ℕ} (a : Ahead n f next start i e) where
-  -- NONE is reached: i is not visited
-  pub missing : e ≡ NONE → has (walk NONE (n + 1) next start) i ≡ false
-  unfolding has
-  missing q = a.same ∙ ap (λ (l : List ℕ). has l i) (walk_stop next (n + 1) e q)
-
-  module _ (some : e ≡ NONE → ⊥) where
-    onward : walk NONE (n + 1) next e ≡ e ∷ walk NONE (n + 1) next (next e)
-    onward = walk_on next n e a.ends some
-
-    -- the rest is shorter
-    pub nearer : length (walk NONE (n + 1) next (next e)) < length (walk NONE (n + 1) next e)
-    nearer = omega (arith, ap length onward)
-
-    -- e is an entry
-    pub ahead_below : e < n
-    ahead_below = ltb-true e n (and_left (ltb e n) (f e) (and_left _ _ (sym (ap (all (within n f)) onward) ∙ a.only)))
-
-    -- i is reached
-    pub found : e ≡ i → has (walk NONE (n + 1) next start) i ≡ true
-    unfolding has
-    found q = a.same ∙ ap (λ (l : List ℕ). has l i) onward ∙ simp (eq-eqb i e (sym q))
-
-    -- one step more
-    pub ahead_more : (e ≡ i → ⊥) → Ahead n f next start i (next e)
-    unfolding has
-    ahead_more q =
-        record {
-          same = a.same ∙ ap (λ (l : List ℕ). has l i) onward ∙ simp (ne_eqb i e (λ z. q (sym z)));
-          only = and_right (within n f e) _ (sym (ap (all (within n f)) onward) ∙ a.only);
-          ends = omega (arith, nearer, a.ends);
-        }
-
 -- ── rule d at list j ──
 
 -- What rule d says of list j.
@@ -161,10 +114,6 @@ pub record Rest (ws : List ℕ) (j e before left : ℕ) : Type 0 where
   pub trail : Trail (E ws) (on ws j) (next_in ws) (word ws (head_at j)) e left
   pub last : last_or NONE (list_from ws j) ≡ last_or before (walk NONE left (next_in ws) e)
   pub back : backwards ws NONE (list_from ws j) ≡ backwards ws before (walk NONE left (next_in ws) e)
-
--- Before the first turn.
-pub rest_start : (ws : List ℕ) (j : ℕ) → Rest ws j (word ws (head_at j)) NONE (E ws + 1)
-rest_start ws j = record { trail = trail_start (E ws) (on ws j) (next_in ws) (word ws (head_at j)); last = refl; back = refl }
 
 module _ {ws : List ℕ} {j e before left : ℕ} (r : Rest ws j e before left) where
   module _ (some : e ≡ NONE → ⊥) (more : 0 < left) where

@@ -1,14 +1,12 @@
 -- Tests: what holds of every number below n, how many pass, and tests that are joined.
 use mathlib.Core.Path.{◌≡◌, refl, ap, sym, ◌∙◌}
-use mathlib.Core.Bool.{Bool, true, false, not, ◌&&◌, ◌||◌}
-use Prim.Native.Nat.{ℕ, zero, suc, ◌+◌, ◌<◌}
+use mathlib.Core.Bool.{Bool, true, false, not, ◌&&◌}
+use Prim.Native.Nat.{ℕ, zero, suc, ◌<◌}
 use native.Mathlib.Nat.{not-suc-le-zero}
-use native.Mathlib.Numerals.{add-one}
 use native.Mathlib.Omega.{arith}
-use lib.Dec.{eqb}
-use borrow.Author.Tests.{eq-eqb, ne_eqb, not-true, not-false}
+use borrow.Author.Tests.{not-true, not-false}
 use Rattle.std.specs.Prelude.{if◌then◌else◌}
-use Rattle.meaning.specs.Base.{every, tally, one_if, ◌⇒◌}
+use Rattle.meaning.specs.Base.{every, ◌⇒◌}
 use Rattle.invariants.proofs.Lists.{split, no_true}
 use Rattle.invariants.proofs.Families.{not_so}
 
@@ -55,15 +53,7 @@ stops h k = simp (h, k)
 
 -- ── two tests, of which one must pass ──
 
--- The first fails: the second decides.
-pub or_skip : {a : Bool} (b : Bool) → a ≡ false → b ≡ (a || b)
-or_skip b h = simp h
-
 -- ── a test that is asked only where another passes ──
-
--- It is asked, and must fail, and passes.
-pub imp_no : {s e : Bool} → s ≡ true → e ≡ true → (s ⇒ not e) ≡ false
-imp_no h k = simp (h, k)
 
 -- It is asked, and must fail, and fails.
 pub imp_yes : {s e : Bool} → s ≡ true → e ≡ false → (s ⇒ not e) ≡ true
@@ -86,29 +76,7 @@ every_at (suc n) f h i k = split i n
     (λ e t. ap f e ∙ and_right (every n f) (f n) h)
     (λ e t. every_at n f (and_left (every n f) (f n) h) i (omega (arith, e)))
 
--- All below i pass, and i does: all below i + 1 do.
-pub every_more : (i : ℕ) (f : ℕ → Bool) → every i f ≡ true → f i ≡ true → every (i + 1) f ≡ true
-every_more i f h k = rw (add-one i) (both h k)
-
--- k below i pass, and i does: k + 1 below i + 1 do.
-pub tally_yes : (i k : ℕ) (f : ℕ → Bool) → k ≡ tally i f → f i ≡ true → k + 1 ≡ tally (i + 1) f
-unfolding tally one_if
-tally_yes i k f h e = rw (add-one i) (omega (arith, ap one_if e))
-
--- k below i pass, and i does not: k below i + 1 do.
-pub tally_no : (i k : ℕ) (f : ℕ → Bool) → k ≡ tally i f → f i ≡ false → k ≡ tally (i + 1) f
-unfolding tally one_if
-tally_no i k f h e = rw (add-one i) (omega (arith, ap one_if e))
-
 -- ── what the code saw ──
-
--- The code read r where w stands, and saw that it is v.
-pub is_eq : {r w v : ℕ} → r ≡ w → r ≡ v → eqb w v ≡ true
-is_eq {r} {w} {v} e h = eq-eqb w v (sym e ∙ h)
-
--- The code read r where w stands, and saw that it is not v.
-pub not_eq : {r w v : ℕ} → r ≡ w → (r ≡ v → ⊥) → eqb w v ≡ false
-not_eq {r} {w} {v} e h = ne_eqb w v (λ q. h (e ∙ q))
 
 -- The code got the answer r to the test t, and `!r` was false.
 pub yes : {r t : Bool} → r ≡ t → not r ≡ false → t ≡ true

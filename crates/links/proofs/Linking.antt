@@ -127,10 +127,6 @@ unlink_turns {e} {ws} {ws'} eq = record {
       record { holds = same_holds _ _ _ _ H5 (image (off e m)) (unfold off_stores in off_image m F e o); fine = leaves_fine m F e o });
 }
 
--- where a link stands, h being the address x of a head or a tail
-pub reaches : {a h x n : ℕ} (f p : ℕ) → h ≡ x → a ≡ link_at h f p → link_at x f p < n → a < n
-reaches f p e q l = rw (q, e) l
-
 -- what `unlink` may write
 module _ {ws : List ℕ} {e : ℕ} (j p : ℕ) (o : Ready ws (OnList e)) (ej : j ≡ word ws (cell_at e list_col)) where
   pub on_next : p ≡ word ws (cell_at e previous_col) → link_at (head_at j) next_col p < length ws

@@ -1,49 +1,44 @@
 -- The walk along a list: its length and its back.
-use Prim.Native.Nat.{ℕ, ◌+◌, ◌*◌, ◌≤◌}
+use Prim.Native.Nat.{ℕ, ◌≤◌}
 use mathlib.Core.Path.{◌≡◌, ap, ◌∙◌}
-use mathlib.Core.List.{List, []}
+use mathlib.Core.List.{List}
 use native.Mathlib.Omega.{arith}
-use lib.ListN.{length, length-append}
-use Rattle.meaning.specs.Neighbours.{NONE}
-use Rattle.meaning.specs.Layout.{cell_at, head_at, tail_at, next_col}
+use lib.ListN.{length}
+use Rattle.meaning.specs.Layout.{head_at, tail_at, next_col}
 use Rattle.meaning.specs.Mem.{Mem, word, size, back, E, entry_count}
 use Rattle.invariants.specs.Places.{top, head, tail, cell, next, Repr, Ready, Says}
 use Rattle.cells.specs.Told.{GivesOf}
-use Rattle.cells.proofs.Ways.{Way, start, Step, onward, step, none_left, all_passed}
+use Rattle.invariants.proofs.Chained.{holes}
+use Rattle.cells.specs.Trail.{trail, Readable}
+use Rattle.cells.proofs.Trails.{trail_whole}
+use Rattle.links.specs.Told.{Lists, Shorter}
 
--- k entries of list j were passed
-pub record Count (j i k : ℕ) (m : Mem) : Type 0 where
-  pub way : Way (m.order j) i k
+-- what the links lead through from the head of list j on, as many as there are entries, is list j, and its words may be read
+walked : {ws : List ℕ} {i n : ℕ} (j : ℕ) (m : Mem) → Repr ws m → (1 ≤ j) × (j ≤ 4) → i ≡ word ws (head_at j) → n ≡ E ws
+    → (trail ws next_col n i ≡ m.order j) × Readable ws (trail ws next_col n i)
+walked {ws} {i} {n} j m R hj ei en =
+    let a : n ≡ entry_count m = en ∙ R.holds.at (top 2) (omega arith) in
+    rw a (trail_whole ws next_col (entry_count m) R.fine.few (omega (arith, R.holds.size)) m.order m.lists R.fine.linked (λ i h. R.holds.at (cell next i) h) j (ei ∙ R.holds.at (head j) hj))
 
-pub on_order : {ws : List ℕ} (j : ℕ) {i k : ℕ} (m : Mem) → Repr ws m → (w : Way (m.order j) i k) → (i ≡ NONE → ⊥) → Step ws next_col (entry_count m) w.rest i
-on_order {ws} j m R = step ws next_col (entry_count m) R.fine.few m.order m.lists R.fine.linked (λ i h. R.holds.at (cell next i) h) j
+pub walk_readable : {ws : List ℕ} {ok : Mem → Type 0} {i n : ℕ} (j : ℕ) → Ready ws ok → (1 ≤ j) × (j ≤ 4) → i ≡ word ws (head_at j) → n ≡ E ws → Readable ws (trail ws next_col n i)
+walk_readable j o hj ei en = (walked j o.mem o.repr hj ei en).1
 
-pub order_none : {ws : List ℕ} (j : ℕ) {i k : ℕ} (m : Mem) → Repr ws m → (w : Way (m.order j) i k) → i ≡ NONE → w.rest ≡ []
-order_none {ws} j m R = none_left ws next_col (entry_count m) R.fine.few m.order m.lists R.fine.linked (λ i h. R.holds.at (cell next i) h) j
+pub walk_lists : {ws : List ℕ} {i n : ℕ} (j : ℕ) → (1 ≤ j) × (j ≤ 4) → i ≡ word ws (head_at j) → n ≡ E ws → Says ws (Lists j (trail ws next_col n i))
+walk_lists j hj ei en = record { of = λ m R. record { is = (walked j m R hj ei en).0 } }
 
-pub order_over : {ws : List ℕ} (j : ℕ) {i k n : ℕ} (m : Mem) → Repr ws m → (w : Way (m.order j) i k) → n ≡ E ws → n ≤ k → w.rest ≡ []
-order_over {ws} j m R w en h = all_passed ws next_col (entry_count m) R.fine.few m.order m.lists R.fine.linked (λ i h. R.holds.at (cell next i) h) j w
-    (omega (arith, en ∙ R.holds.at (top 2) (omega arith)))
-
-counted : (j : ℕ) {i k : ℕ} (m : Mem) (w : Way (m.order j) i k) → w.rest ≡ [] → GivesOf size j k m
+-- how many stand on a list
+pub list_size : {ws : List ℕ} {j k : ℕ} {L : List ℕ} → Says ws (Lists j L) → k ≡ length L → Says ws (GivesOf size j k)
 unfolding size
-counted j m w e = record { is = omega (arith, w.done, ap length w.whole ∙ length-append w.passed w.rest, ap length e) }
+list_size s e = record { of = λ m R. record { is = e ∙ ap length (s.of m R).is } }
 
-pub count_start : {ws : List ℕ} {j i : ℕ} → (1 ≤ j) × (j ≤ 4) → i ≡ word ws (head_at j) → Says ws (Count j i 0)
-count_start {j = j} hj ei = record { of = λ m R. record { way = start (ei ∙ R.holds.at (head j) hj) } }
+pub list_few : {ws : List ℕ} {ok : Mem → Type 0} {j : ℕ} {L : List ℕ} → Ready ws ok → Says ws (Lists j L) → length L ≤ 1024
+list_few {j = j} o s = let m = o.mem in let F = o.repr.fine in
+    omega (arith, ap length (s.of m o.repr).is, holes (entry_count m) (m.order j) (F.linked.once j) (λ z g. (F.linked.member j z g).0), F.few)
 
-module _ {ws : List ℕ} {j i k : ℕ} where
-  pub count_room : {ok : Mem → Type 0} → Ready ws ok → Says ws (Count j i k) → (i ≡ NONE → ⊥) → 16 + 8 * i + 8 ≤ length ws
-  count_room o s h = omega (arith, o.repr.holds.size, (on_order j o.mem o.repr (s.of o.mem o.repr).way h).real)
-
-  pub count_next : {i' : ℕ} → Says ws (Count j i k) → (i ≡ NONE → ⊥) → i' ≡ word ws (cell_at i next_col) → Says ws (Count j i' (k + 1))
-  count_next s h ei = record { of = λ m R. let w = (s.of m R).way in record { way = onward w (on_order j m R w h) ei } }
-
-  pub count_none : Says ws (Count j i k) → i ≡ NONE → Says ws (GivesOf size j k)
-  count_none s z = record { of = λ m R. let w = (s.of m R).way in counted j m w (order_none j m R w z) }
-
-  pub count_over : {n : ℕ} → Says ws (Count j i k) → n ≡ E ws → n ≤ k → Says ws (GivesOf size j k)
-  count_over s en h = record { of = λ m R. let w = (s.of m R).way in counted j m w (order_over j m R w en h) }
+-- a list fits where it is shorter than n
+pub list_fits : {ws : List ℕ} {ok : Mem → Type 0} {j n : ℕ} {L : List ℕ} → Ready ws ok → Says ws (Lists j L) → Says ws (Shorter j n) → length L ≤ n
+unfolding size
+list_fits o s f = let m = o.mem in omega (arith, ap length (s.of m o.repr).is, (f.of m o.repr).fits)
 
 pub back_says : {ws : List ℕ} {j r : ℕ} → (1 ≤ j) × (j ≤ 4) → r ≡ word ws (tail_at j) → Says ws (GivesOf back j r)
 unfolding back

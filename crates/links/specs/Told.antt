@@ -3,6 +3,10 @@ use Rattle.std.specs.Prelude.{ℕ, ◌≤◌, ◌≡◌, List, map}
 use Rattle.meaning.specs.Mem.{Mem, size}
 use Rattle.meaning.specs.Calls.{over}
 
+-- L is list j, front first
+pub record Lists (j : ℕ) (L : List ℕ) (m : Mem) : Type 0 where
+  pub is : L ≡ m.order j
+
 -- a list's pages fit into n words
 pub record Shorter (j n : ℕ) (m : Mem) : Type 0 where
   pub fits : size m j ≤ n

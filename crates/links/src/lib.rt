@@ -7,10 +7,12 @@ ghost use Rattle.meaning.specs.Mem.{off, push, to_front, move_to, size, back};
 ghost use Rattle.invariants.specs.Places.{Ready, Turns, Says, Any, link_at};
 ghost use Rattle.cells.specs.Told.{GivesOf};
 ghost use Rattle.links.specs.Asked.{OnList, OffList};
-ghost use Rattle.links.specs.Told.{Shorter, Copied};
+ghost use Rattle.cells.specs.Steps.{steps};
+ghost use Rattle.cells.specs.Trail.{Readable};
+ghost use Rattle.links.specs.Told.{Lists, Shorter, Copied};
 ghost use Rattle.links.specs.Written.{joined, relinked, led};
 
-use cells::{cell, head_at, link_at, put, put_cell, set_slot, tail_at, word};
+use cells::{Walk, cell, head_at, link_at, put, put_cell, set_slot, tail_at, word};
 use settings::{ENTRIES, LIST, NEXT, NONE, PAGE, PREVIOUS};
 
 // Joins p and n on list j: what stands behind p is n, and what stands in front of n is p; NONE is the list's end.
@@ -46,7 +48,7 @@ pub fn unlink(words: &mut [u32], e: u32)
     put_links(words, e, 0, NONE, NONE);
 }
 
-// The first entry of list j, or NONE.
+// The first entry of list j, or NONE, as the word has it.
 fn front(words: &[u32], j: u32) -> u32
     requires { (1 ≤ j) × (j ≤ 4) × (16 ≤ length words.now) }
     ensures { result ≡ get_or words.now (head_at j) 0 }
@@ -95,6 +97,21 @@ pub fn move_to(words: &mut [u32], e: u32, j: u32, s: u32)
     set_slot(words, e, s);
 }
 
+// The entries of list j, front first.
+fn listed(words: &[u32], j: u32) -> Walk<'_>
+    requires ready { Ready words.now Any }
+    requires le_j { (1 ≤ j) × (j ≤ 4) }
+    ensures lists { Says words.now (Lists j (steps result)) }
+    ensures readable { Readable words.now (steps result) }
+{
+    Walk {
+        words,
+        link: NEXT,
+        next: front(words, j),
+        left: word(words, ENTRIES),
+    }
+}
+
 // The number of entries of list j.
 pub fn size(words: &[u32], j: u32) -> u32
     requires ready { Ready words.now Any }
@@ -102,20 +119,10 @@ pub fn size(words: &[u32], j: u32) -> u32
     ensures says { Says words.now (GivesOf size j result) }
     ensures upper_bound { result ≤ 1024 }
 {
-    let n = word(words, ENTRIES);
-    let mut i = front(words, j);
-    let mut k = 0;
-    while k < n {
-        if i == NONE {
-            return k;
-        }
-        i = cell(words, i, NEXT);
-        k += 1;
-    }
-    k
+    listed(words, j).count() as u32
 }
 
-// Writes the pages of list j, front first, and answers how many; words past that stay.
+// Writes the pages of list j, front first, and answers how many; words past that stay. They are counted by a second walk, since the clause promises their number and a `for` gives none.
 pub fn write_pages(words: &[u32], j: u32, res: &mut [u32]) -> u32
     requires ready { Ready words.now Any }
     requires le_j { (1 ≤ j) × (j ≤ 4) }
@@ -123,21 +130,13 @@ pub fn write_pages(words: &[u32], j: u32, res: &mut [u32]) -> u32
     ensures counted { Says words.now (GivesOf size j result) }
     ensures copied { Says words.now (Copied j res.old res.new) }
 {
-    let n = word(words, ENTRIES);
-    let mut i = front(words, j);
-    let mut k = 0;
-    while k < n {
-        if i == NONE {
-            return k;
-        }
-        res[k as usize] = cell(words, i, PAGE);
-        i = cell(words, i, NEXT);
-        k += 1;
+    for (k, entry) in listed(words, j).enumerate() {
+        res[k] = cell(words, entry, PAGE);
     }
-    k
+    size(words, j)
 }
 
-// The last entry of list j, or NONE.
+// The last entry of list j, or NONE: the word itself, since `back` of `meaning`, which the clause cites, is a number.
 pub fn back(words: &[u32], j: u32) -> u32
     requires ready { Ready words.now Any }
     requires le_j { (1 ≤ j) × (j ≤ 4) }

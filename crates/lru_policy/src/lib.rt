@@ -1,4 +1,5 @@
 // LRU, on list 1.
+// The five policies begin alike, with one let-else on what `find` gives: a trait over that would be longer than the line it saves.
 #![tactic(auto)]
 
 ghost use Rattle.std.specs.Prelude.{◌<◌};
@@ -7,9 +8,8 @@ ghost use Rattle.invariants.specs.Places.{Ready};
 ghost use Rattle.invariants.specs.Assumed.{Lru};
 ghost use Rattle.rooms.specs.Rooms.{Serves, asking};
 
-use lists::Found;
 use meaning::Answer;
-use rooms::{enter_lru, hit_front};
+use rooms::{LruRoom, enter_after, hit_front};
 
 // Held: to the front. Else make room; the page enters at the front.
 pub fn lru_step(words: &mut [u32], page: u32) -> Answer
@@ -17,9 +17,8 @@ pub fn lru_step(words: &mut [u32], page: u32) -> Answer
     requires page_bound { page < 4294967295 }
     ensures { Serves words.old words.new Lru (asking lru page) result }
 {
-    let f = lists::find(words, page);
-    let Found::At(e, _) = f else {
-        return enter_lru(words, page);
+    let Some(found) = lists::find(words, page) else {
+        return enter_after(LruRoom, words, page);
     };
-    hit_front(words, e, 1)
+    hit_front(words, found.entry, 1)
 }

@@ -1,2 +1,3 @@
 pub mod Injective
 pub mod Rows
+pub mod Exits

@@ -1,30 +1,19 @@
--- From what a call promises to the numbers that C sees.
-use Prim.Native.Nat.{ℕ}
-use mathlib.Core.Path.{◌≡◌, sym, ap, ◌∙◌}
-use mathlib.Core.Bool.{Bool, true, false}
-use mathlib.Core.List.{List}
-use Rattle.meaning.specs.Base.{one_if}
-use Rattle.meaning.specs.Calls.{Said, Outcome}
-use Rattle.pagedir.specs.Promises.{number, answers, Told, ToldAnd, Left}
+-- From what a call gave to the answer words that C sees.
+use Rattle.std.proofs.Common.{◌≡◌, refl, sym, ap, ◌∙◌, ℕ, ◌+◌, List, ◌++◌, length, arith}
+use Rattle.std.specs.Prelude.{Result, Ok}
+use Rattle.std.proofs.lemmas.List.Edits.{sets}
+use lib.Seq.{sets-eq}
+use lib.ListN.{drop_of_length-le}
+use mathlib.Core.List.{append-nil}
+use Rattle.meaning.specs.declared.Refusal.{Refusal}
+use Rattle.meaning.specs.Answers.{says}
+use Rattle.pagedir.specs.Promises.{number, Told}
 
--- A test that holds, as 1.
-pub yes : {a b : Bool} → a ≡ b → a ≡ true → 1 ≡ one_if b
-unfolding one_if
-yes e t = sym (ap one_if (sym e ∙ t))
+-- As many words as there are answer words overwrite all of them.
+all_over : (ws before : List ℕ) → length ws ≡ length before → sets before 0 ws ≡ ws
+all_over ws before e =
+    sets-eq ws before 0 (omega arith) ∙ ap (λ (l : List ℕ). ws ++ l) (drop_of_length-le before {i = 0 + length ws} (omega arith)) ∙ append-nil ws
 
--- A test that fails, as 0.
-pub nay : {a b : Bool} → a ≡ b → a ≡ false → 0 ≡ one_if b
-unfolding one_if
-nay e t = sym (ap one_if (sym e ∙ t))
-
--- What is returned, and the answer words, of a call that said s.
-pub tells : {A : Type 0} (code : Said A → ℕ) (f : A → List ℕ) (s : Said A) {said : Said A} {before : List ℕ} → s ≡ said → Told code f said before (code s) (answers f s before)
-tells {A} code f s {said} {before} e = record { number = ap code e; words = ap (λ (z : Said A). answers f z before) e }
-
--- The same of a call that lends something beside the answer.
-pub tells_and : {A L : Type 0} (code : Said A → ℕ) (f : A → List ℕ) (s : Said A) {o : Outcome A L} {before : List ℕ} {left' : L} → s ≡ o.said → left' ≡ o.left → ToldAnd code f o before (code s) (answers f s before) left'
-tells_and code f s e q = record { told = tells code f s e; left = q }
-
--- The same of a call with no answer words.
-pub leaves : {A L : Type 0} (s : Said A) {o : Outcome A L} {left' : L} → s ≡ o.said → left' ≡ o.left → Left o (number s) left'
-leaves s e q = record { number = ap number e; left = q }
+-- All of the answer words are told.
+pub all_told : (said : Result (List ℕ) Refusal) {ws before after : List ℕ} → said ≡ Ok ws → length after ≡ length before → after ≡ ws → Told number (λ ws. ws) (says (λ ws. ws) said) before 0 after
+all_told said {ws} {before} {after} i e q = rw i record { number = refl; words = q ∙ sym (all_over ws before (sym (ap length q) ∙ e)) }

@@ -10,10 +10,11 @@ use lib.ListN.{length}
 use borrow.Author.Tests.{ne_eqb, eqb-true, le-leb}
 use Rattle.meaning.specs.declared.Answer.{Answer}
 use Rattle.meaning.specs.declared.Looked.{Looked}
-use Rattle.meaning.specs.declared.Formed.TheVariants as formed
+use Rattle.std.specs.Prelude.{Result, Ok}
+use Rattle.meaning.specs.declared.Refusal.{Refusal}
 use Rattle.meaning.specs.Base.{all}
 use Rattle.meaning.specs.Neighbours.{NONE}
-use Rattle.meaning.specs.Layout.{four, length_of, settings_refusal}
+use Rattle.meaning.specs.Layout.{Settings, length_of}
 use Rattle.meaning.specs.Mem.{words, decode, fresh, empty, settings_top, capacity_of}
 use Rattle.meaning.specs.Room.{Reply}
 use Rattle.meaning.specs.Policies.{request}
@@ -60,32 +61,32 @@ history_fits (asked p a l ∷ ts) ws ws' h = both (le-leb p NONE h.0.0) (history
 -- ── From form on ──
 
 -- A directory that was formed is the fresh one of accepted settings.
-fresh_is : {p c f s : ℕ} {before ws : List ℕ} → FormedAs p c f s before formed.Done ws → (settings_refusal p c f s ≡ 0) × (ws ≡ words (fresh (four p c f s)))
-unfolding form refuse refusal_of
-fresh_is {p} {c} {f} {s} {before} {ws} x = go (eqb (settings_refusal p c f s) 0) refl (eqb (length before) (length_of (four p c f s))) refl
+fresh_is : {s : Settings} {before ws : List ℕ} → FormedAs s before (Ok (tt {0})) ws → (refusal_of s ≡ 0) × (ws ≡ words (fresh s))
+unfolding form refuse
+fresh_is {s} {before} {ws} x = go (eqb (refusal_of s) 0) refl (eqb (length before) (length_of s)) refl
   where
-    go : (a : Bool) → eqb (settings_refusal p c f s) 0 ≡ a → (b : Bool) → eqb (length before) (length_of (four p c f s)) ≡ b → (settings_refusal p c f s ≡ 0) × (ws ≡ words (fresh (four p c f s)))
-    go false h b k = absurd (not_given {r = plain (settings_refusal p c f s)} (sym (x.answer ∙ simp h)))
+    go : (a : Bool) → eqb (refusal_of s) 0 ≡ a → (b : Bool) → eqb (length before) (length_of s) ≡ b → (refusal_of s ≡ 0) × (ws ≡ words (fresh s))
+    go false h b k = absurd (not_given {r = plain (refusal_of s)} (sym (x.answer ∙ simp h)))
     go true h false k = absurd (not_given {r = plain 4} (sym (x.answer ∙ simp (h, k))))
     go true h true k = (eqb-true _ 0 h, x.memory ∙ simp (h, k))
 
-module _ {p c f s : ℕ} {before ws : List ℕ} (x : FormedAs p c f s before formed.Done ws) (ts : List Call) {ws' : List ℕ} (h : History ws ts ws') (ram : ℕ → ℕ) where
-  stands : Stands (four p c f s) (told ram_by ram ts) ws'
-  unfolding loading
+module _ {s : Settings} {before ws : List ℕ} (x : FormedAs s before (Ok (tt {0})) ws) (ts : List Call) {ws' : List ℕ} (h : History ws ts ws') (ram : ℕ → ℕ) where
+  stands : Stands s (told ram_by ram ts) ws'
+  unfolding loading refusal_of
   stands =
       let k = fresh_is x in
-      let from = subst (Stands (four p c f s) ram) (sym k.1) (fresh_stands (four p c f s) k.0 ram) in
-      let to = always_stands (four p c f s) ram ws from (map event_of ts) (history_fits ts ws ws' h) in
-      subst (λ (r : Ran (ℕ → ℕ) (List ℕ)). Stands (four p c f s) r.gathered r.left) (history_run ram_by ts ram ws ws' h) to
+      let from = subst (Stands s ram) (sym k.1) (fresh_stands s k.0 ram) in
+      let to = always_stands s ram ws from (map event_of ts) (history_fits ts ws ws' h) in
+      subst (λ (r : Ran (ℕ → ℕ) (List ℕ)). Stands s r.gathered r.left) (history_run ram_by ts ram ws ws' h) to
 
   -- After a form that was done, whatever RAM held, and any history: every answer of `request` is right. Its slot is one of the C, a Hit names one that holds that very page, and only NONE is refused, with 6.
-  pub calls_never_wrong : {q : ℕ} {a : Answer} {l : List ℕ} → q ≤ NONE → Requested ws' q a l → RightSaid c (told ram_by ram ts) (ask q) (request_says a)
+  pub calls_never_wrong : {q : ℕ} {a : Result Answer Refusal} {l : List ℕ} → q ≤ NONE → Requested ws' q a l → RightSaid s.C (told ram_by ram ts) (ask q) (request_says a)
   unfolding happens fits
   calls_never_wrong {q} {a} {l} hq y =
-      subst (RightSaid c (told ram_by ram ts) (ask q)) (sym y.answer) (event_right (four p c f s) (told ram_by ram ts) ws' stands (ask q) (le-leb q NONE hq))
+      subst (RightSaid s.C (told ram_by ram ts) (ask q)) (sym y.answer) (event_right s (told ram_by ram ts) ws' stands (ask q) (le-leb q NONE hq))
 
   -- `look` says Held with slot n exactly if the page is held there.
-  pub looks_both_ways : {q : ℕ} {a : Looked} → q < NONE → LookedAs ws' q a → (n : ℕ) → (look_says a ≡ gave (held_in n)) ↔ Sits q n (decode ws')
+  pub looks_both_ways : {q : ℕ} {a : Result Looked Refusal} → q < NONE → LookedAs ws' q a → (n : ℕ) → (look_says a ≡ gave (held_in n)) ↔ Sits q n (decode ws')
   unfolding looked on_page
   looks_both_ways {q} {a} hq y n =
       let m = stands.mem in
@@ -101,18 +102,18 @@ module _ {p c f s : ℕ} {before ws : List ℕ} (x : FormedAs p c f s before for
       same_sight e = cc
 
   -- And then that slot is one of the C and holds that very page.
-  pub looks_never_wrong : {q : ℕ} {a : Looked} → q < NONE → LookedAs ws' q a → (n : ℕ) → look_says a ≡ gave (held_in n) → (n < c) × (told ram_by ram ts n ≡ q)
+  pub looks_never_wrong : {q : ℕ} {a : Result Looked Refusal} → q < NONE → LookedAs ws' q a → (n : ℕ) → look_says a ≡ gave (held_in n) → (n < s.C) × (told ram_by ram ts n ≡ q)
   unfolding fresh empty settings_top
   looks_never_wrong {q} {a} hq y n e =
       let m = stands.mem in
-      let capacity : capacity_of m ≡ c = stands.header 1 (omega arith) in
+      let capacity : capacity_of m ≡ s.C = stands.header 1 (omega arith) in
       let S = subst (Sits q n) (ap decode stands.is ∙ decode_indexed m stands.whole.stocked.seated.indexed) ((looks_both_ways hq y n).0 e) in
       (omega (arith, (whole_safe m stands.whole).within q n S, capacity), stands.right q n S)
 
 -- ── Sound in, sound out ──
 
 -- From what `request` promises: sound words stay sound.
-pub request_stays_sound : {ws ws' : List ℕ} {q : ℕ} {a : Answer} → sound ws ≡ true → q ≤ NONE → Requested ws q a ws' → sound ws' ≡ true
+pub request_stays_sound : {ws ws' : List ℕ} {q : ℕ} {a : Result Answer Refusal} → sound ws ≡ true → q ≤ NONE → Requested ws q a ws' → sound ws' ≡ true
 unfolding requested on_page refuse
 request_stays_sound {ws} {ws'} {q} {a} s hq y = split q NONE
     (λ z t. ap sound (y.memory ∙ simp (s, t)) ∙ s)

@@ -1,19 +1,19 @@
 -- A request on words, from the steps of the policies.
 use Prim.Native.Nat.{ℕ, ◌<◌}
-use mathlib.Core.Path.{◌≡◌, refl, sym, ap, ◌∙◌, subst}
-use mathlib.Core.Bool.{Bool, true, false, not}
+use mathlib.Core.Path.{◌≡◌, sym, ap, ◌∙◌, subst}
+use mathlib.Core.Bool.{true, false, ◌&&◌}
 use mathlib.Core.List.{List}
 use native.Mathlib.Omega.{arith}
-use lib.Dec.{eqb}
+use lib.Dec.{eqb, leb}
 use lib.ListN.{length}
-use borrow.Author.Tests.{eq-eqb, ne_eqb}
+use borrow.Author.Tests.{eq-eqb, ne_eqb, le-leb}
+use Rattle.invariants.proofs.Tests.{both}
 use Rattle.meaning.specs.declared.Answer.{Answer}
-use Rattle.meaning.specs.declared.Answer.TheVariants.{Hit, Loaded, Swapped, Refused}
-use Rattle.meaning.specs.declared.Refusal.{Refusal}
-use Rattle.meaning.specs.declared.SlotFor.{SlotFor}
+use Rattle.std.specs.Prelude.{Result, Ok, Err}
+use Rattle.meaning.specs.declared.Refusal.{Refusal as Refusing}
 use Rattle.meaning.specs.Neighbours.{NONE}
 use Rattle.meaning.specs.Mem.{Mem, decode, capacity_of, first_of, policy_in, policy_of, second_of}
-use Rattle.meaning.specs.Room.{Done}
+use Rattle.meaning.specs.Room.{Reply, Done}
 use Rattle.meaning.specs.Lru.{lru}
 use Rattle.meaning.specs.Clock.{clock}
 use Rattle.meaning.specs.Segmented.{segmented}
@@ -21,19 +21,18 @@ use Rattle.meaning.specs.TwoQ.{two_q}
 use Rattle.meaning.specs.Arc.{arc}
 use Rattle.meaning.specs.Policies.{request}
 use Rattle.meaning.specs.Rules.{sound}
-use Rattle.meaning.specs.Calls.{plain, refuse, audited, answered, on_page, requested, slot_of, slot_for}
-use Rattle.meaning.specs.Answers.{request_says, slot_says}
+use Rattle.meaning.specs.Calls.{refused, gave, Outcome, refuse, answered, on_page, requested, slot_of, slot_for}
+use Rattle.meaning.specs.Answers.{refusal_says, request_says, slot_says}
 use Rattle.invariants.specs.Places.{top, Ready}
 use Rattle.invariants.specs.Assumed.{Lru, Clock, Segmented, TwoQ, Arc}
-use Rattle.meaning.proofs.Injective.{as_struct}
 use Rattle.invariants.proofs.Trip.{repr_words}
 use Rattle.theorems.proofs.Whole.{lru_whole, clock_whole, segmented_whole, two_q_whole, arc_whole, request_whole}
-use Rattle.invariants.proofs.Accepted.{accepted, fifth}
+use Rattle.invariants.proofs.Accepted.{accepted}
 use Rattle.sound.proofs.Door.{door}
-use Rattle.sound.proofs.Entry.{is_sound, not_sound}
+use Rattle.sound.proofs.Entry.{page_refused, page_allowed}
 use Rattle.invariants.proofs.Back.{whole_sound}
 use Rattle.rooms.specs.Rooms.{Ends, Serves, asking}
-use Rattle.policies.specs.Requests.{Stepped, Requested, SlotGiven, Refuses}
+use Rattle.policies.specs.Requests.{Stepped, Requested, SlotGiven}
 
 -- ── The step ──
 
@@ -50,7 +49,7 @@ stepped {ws} {ws'} {p} {r = r} s hp S o e =
     let k = subst (Ends ws' r) e (S.to (decode ws) D.0 o) in
     let w = repr_words ws' (request (decode ws) p).mem k.repr in
     record {
-      said = k.says;
+      said = ap gave k.says;
       left = sym w;
       given = k.says;
       keeps = subst (λ (v : List ℕ). sound v ≡ true) w (whole_sound (request (decode ws) p).mem (request_whole (decode ws) p D.1 hp));
@@ -75,11 +74,12 @@ module _ (ws : List ℕ) {x : ℕ} (s : sound ws ≡ true) (ex : x ≡ policy_in
   is_two_q : x ≡ 4 → TwoQ (decode ws)
   is_two_q z = two_q_whole (decode ws) (door ws s).1 (sym policy ∙ z)
 
-  is_five : (x ≡ 1 → ⊥) → (x ≡ 2 → ⊥) → (x ≡ 3 → ⊥) → (x ≡ 4 → ⊥) → x ≡ 5
-  is_five a b c d =
+  -- word 0 names a policy
+  pub names_policy : (leb 1 x && leb x 5) ≡ true
+  names_policy =
       let m = decode ws in
       let k = (accepted (policy_of m) (capacity_of m) (first_of m) (second_of m) (door ws s).1.headed.settings).policy in
-      fifth x (omega (arith, k, policy)) a b c d
+      both (le-leb 1 x (omega (arith, k, policy))) (le-leb x 5 (omega (arith, k, policy)))
 
   is_arc : x ≡ 5 → Arc (decode ws)
   is_arc z = arc_whole (decode ws) (door ws s).1 (sym policy ∙ z)
@@ -100,9 +100,9 @@ module _ (ws : List ℕ) {x : ℕ} (s : sound ws ≡ true) (ex : x ≡ policy_in
   pub ready_two_q : x ≡ 4 → Ready ws TwoQ
   ready_two_q z = ready (is_two_q z)
 
-  -- any other is an ARC directory
-  pub ready_arc : (x ≡ 1 → ⊥) → (x ≡ 2 → ⊥) → (x ≡ 3 → ⊥) → (x ≡ 4 → ⊥) → Ready ws Arc
-  ready_arc a b c d = ready (is_arc (is_five a b c d))
+  -- policy 5 is an ARC directory
+  pub ready_arc : x ≡ 5 → Ready ws Arc
+  ready_arc z = ready (is_arc z)
 
   -- which policy word 0 names, and which it does not
   test : (n : ℕ) → x ≡ n → eqb (policy_of (decode ws)) n ≡ true
@@ -133,29 +133,22 @@ module _ (ws : List ℕ) {x : ℕ} (s : sound ws ≡ true) (ex : x ≡ policy_in
     step_two_q z S = stepped s hp S (is_two_q z) (simp (test 4 z, other 4 1 z (omega arith), other 4 2 z (omega arith), other 4 3 z (omega arith)))
 
     -- so is ARC's
-    pub step_arc : (x ≡ 1 → ⊥) → (x ≡ 2 → ⊥) → (x ≡ 3 → ⊥) → (x ≡ 4 → ⊥) → Serves ws ws' Arc (asking arc p) r → Stepped ws p r ws'
+    pub step_arc : x ≡ 5 → Serves ws ws' Arc (asking arc p) r → Stepped ws p r ws'
     unfolding asking request
-    step_arc a b c d S =
-        let z = is_five a b c d in
-        stepped s hp S (is_arc z) (simp (other 5 1 z (omega arith), other 5 2 z (omega arith), other 5 3 z (omega arith), other 5 4 z (omega arith)))
+    step_arc z S = stepped s hp S (is_arc z) (simp (other 5 1 z (omega arith), other 5 2 z (omega arith), other 5 3 z (omega arith), other 5 4 z (omega arith)))
 
 -- ── The call ──
 
-module _ (ws : List ℕ) {b : Bool} (a : b ≡ audited ws) where
-  -- 5: the words are not sound
-  pub unsound : (p : ℕ) → not b ≡ true → Requested ws p (Refused (as_struct (plain 5))) ws
-  unfolding requested on_page refuse
-  unsound p z = let t = not_sound ws a z in record { answer = sym (simp t); memory = sym (simp t) }
-
-  -- 6: the page is NONE
-  pub no_page : {p : ℕ} → not b ≡ false → p ≡ NONE → Requested ws p (Refused (as_struct (plain 6))) ws
-  unfolding requested on_page refuse
-  no_page {p} z y = let t = is_sound ws a z in let u = eq-eqb p NONE y in record { answer = sym (simp (t, u)); memory = sym (simp (t, u)) }
+module _ (ws : List ℕ) (p : ℕ) where
+  -- 5 and 6: the words or the page are refused
+  pub not_asked : {r : Refusing} → refused (refusal_says r) ≡ on_page ws p (gave (tt {0})) refused → Requested ws p (Err r) ws
+  unfolding requested refuse
+  not_asked e = let o = page_refused ws p (answered ws p) (λ x. refuse x ws) e in record { answer = sym (ap (λ (x : Outcome Reply (List ℕ)). x.said) o); memory = sym (ap (λ (x : Outcome Reply (List ℕ)). x.left) o) }
 
   -- else the step's answer is the call's
-  pub a_page : {p : ℕ} {ws' : List ℕ} {r : Answer} → not b ≡ false → (p ≡ NONE → ⊥) → Stepped ws p r ws' → Requested ws p r ws'
+  pub a_page : {ws' : List ℕ} {r : Answer} → gave (tt {0}) ≡ on_page ws p (gave (tt {0})) refused → Stepped ws p r ws' → Requested ws p (Ok r) ws'
   unfolding requested on_page
-  a_page {p} z y S = let t = is_sound ws a z in let u = ne_eqb p NONE y in record { answer = S.said ∙ sym (simp (t, u)); memory = S.left ∙ sym (simp (t, u)) }
+  a_page e S = let t = page_allowed ws p e in let u = ne_eqb p NONE t.1 in record { answer = S.said ∙ sym (simp (t.0, u)); memory = S.left ∙ sym (simp (t.0, u)) }
 
 -- On sound words and a page, the public request is the request.
 pub request_is : (ws : List ℕ) (p : ℕ) → sound ws ≡ true → p < NONE → requested ws p ≡ answered ws p
@@ -164,18 +157,7 @@ request_is ws p s hp = simp (s, ne_eqb p NONE (λ z. omega (arith, z)))
 
 -- ── The slot ──
 
--- an answer that is none of the others is a refusal
-pub refuses : (a : Answer) → ((s n : ℕ) → a ≡ Hit s n → ⊥) → ((s n : ℕ) → a ≡ Loaded s n → ⊥) → ((s o n : ℕ) → a ≡ Swapped s o n → ⊥) → Refuses a
-refuses (Hit s n) x y z = absurd (x s n refl)
-refuses (Loaded s n) x y z = absurd (y s n refl)
-refuses (Swapped s o n) x y z = absurd (z s o n refl)
-refuses (Refused r) x y z = record { refusal = r; is = refl }
-
--- so a refusal is none of the others
-pub never_given : (a : Answer) → Refuses a → ((r : Refusal) → a ≡ Refused r → ⊥) → ⊥
-never_given a R x = x R.refusal R.is
-
 -- the slot of the request's answer is the call's
-pub slot_given : {ws ws' : List ℕ} {p : ℕ} {a : Answer} {r : SlotFor} → Requested ws p a ws' → slot_says r ≡ slot_of (request_says a) → SlotGiven ws p r ws'
+pub slot_given : {ws ws' : List ℕ} {p : ℕ} {a : Result Answer Refusing} {r : Result ℕ Refusing} → Requested ws p a ws' → slot_says r ≡ slot_of (request_says a) → SlotGiven ws p r ws'
 unfolding slot_for
 slot_given Q e = record { answer = e ∙ ap slot_of Q.answer; memory = Q.memory }

@@ -1,6 +1,7 @@
 -- A history of one directory: the public calls made on it, each with its answer and the words that it left.
-use Rattle.std.specs.Prelude.{ℕ, ◌≤◌, ◌≡◌, List, [], ◌∷◌}
+use Rattle.std.specs.Prelude.{ℕ, ◌≤◌, ◌≡◌, List, [], ◌∷◌, Result}
 use Rattle.meaning.specs.declared.Answer.{Answer}
+use Rattle.meaning.specs.declared.Refusal.{Refusal}
 use Rattle.meaning.specs.Neighbours.{NONE}
 use Rattle.meaning.specs.Room.{Reply}
 use Rattle.meaning.specs.Calls.{Said, Event, ask}
@@ -9,7 +10,7 @@ use Rattle.policies.specs.Requests.{Requested}
 
 -- One call: `request` for a page, its answer and the words afterwards.
 pub data Call : Type 0 where
-  asked : ℕ → Answer → List ℕ → Call
+  asked : ℕ → Result Answer Refusal → List ℕ → Call
 
 -- The event that a call is, what it said, and the words that it left.
 unfoldable pub event_of : Call → Event

@@ -1,4 +1,4 @@
--- The program's steps, from the promises of the calls that they make.
+-- The program's steps, from the promises of the calls that it makes.
 use Prim.Native.Nat.{ℕ, ◌≤◌}
 use mathlib.Core.Path.{◌≡◌, refl, sym, ap, ◌∙◌}
 use mathlib.Core.Bool.{Bool, true, false}
@@ -7,22 +7,19 @@ use native.Mathlib.Omega.{arith}
 use lib.Dec.{eqb}
 use borrow.Author.Tests.{eqb-true}
 use lib.ListN.{length, take, drop, replicate, length-replicate, length-append}
+use lib.Seq.{length-take-le}
 use lib.Pow.{pow_mono}
-use Rattle.meaning.specs.declared.Formed.{Formed}
-use Rattle.meaning.specs.declared.Formed.TheVariants as formed
-use Rattle.meaning.specs.declared.WordsFor.{WordsFor}
-use Rattle.meaning.specs.declared.WordsFor.TheVariants as long
-use Rattle.meaning.specs.declared.Replayed.{Replayed}
+use Rattle.std.specs.Prelude.{Result, Ok, Err}
+use Rattle.meaning.specs.declared.Accepted.{Accepted}
+use Rattle.meaning.specs.declared.Counts.{Counts as Counted}
 use Rattle.meaning.specs.declared.Refusal.{Refusal}
-use Rattle.meaning.specs.declared.ReadText.{ReadText}
-use Rattle.meaning.specs.declared.ReadText.TheVariants as reads
-use Rattle.meaning.specs.Layout.{Settings, four, entries_of, bits_of, length_for, length_of, settings_refusal}
-use Rattle.meaning.specs.Calls.{plain, Said, refused, gave, Counts, refuse, refusal_of, formed as form, words_for, over}
+use Rattle.meaning.specs.Layout.{Settings, entries_of, bits_of, length_for, length_of, settings_refusal}
+use Rattle.meaning.specs.Calls.{plain, Said, refused, gave, refuse, refusal_of, formed as form, words_for, over}
 use Rattle.meaning.specs.Text.{Contents, read_text, on_text, read}
-use Rattle.meaning.specs.Program.{Five, ended, finished, onward, replay_in, form_in, play_in, program_room, programmed}
-use Rattle.meaning.specs.Answers.{refusal_says, replay_says, form_says, length_says, read_says}
+use Rattle.meaning.specs.Program.{ended, finished, onward, replay_in, form_in, play_in, program_room, programmed}
+use Rattle.meaning.specs.Answers.{asked, refusal_says, replay_says, form_says, length_says}
 use Rattle.invariants.proofs.Accepted.{few_entries}
-use Rattle.meaning.proofs.Injective.{case, not_given}
+use Rattle.meaning.proofs.Injective.{not_given}
 use Rattle.invariants.proofs.Fresh.{bits_small}
 use Rattle.form_look_report.specs.Forms.{FormedAs, LongAs}
 use Rattle.replay.specs.Replays.{ReplayedAs}
@@ -32,25 +29,25 @@ use Rattle.trace_text.proofs.OfCalls.{Taken, taken, over_front}
 -- ── Replay ──
 
 -- What a replay says is what the program says.
-pub after_replay : {ws pages ws' : List ℕ} {r : Replayed} (r' : Replayed) → ReplayedAs ws pages r ws' → r ≡ r' → onward (replay_says r') finished ≡ replay_in ws pages
+pub after_replay : {ws pages ws' : List ℕ} {r : Result Counted Refusal} → ReplayedAs ws pages r ws' → onward (replay_says r) finished ≡ replay_in ws pages
 unfolding replay_in
-after_replay r' x e = ap (λ (z : Said Counts). onward z finished) (case replay_says x.answer e)
+after_replay x = ap (λ (z : Said _). onward z finished) x.answer
 
 -- ── Form ──
 
-module _ {p c f s : ℕ} {ws ws' : List ℕ} {r : Formed} (x : FormedAs p c f s ws r ws') (pages : List ℕ) where
+module _ (s : Settings) (ws pages : List ℕ) {ws' : List ℕ} where
   -- what follows form
-  after : {a : Said (Unit {0})} → a ≡ (form (four p c f s) ws).said → onward a (λ u. replay_in (form (four p c f s) ws).left pages) ≡ form_in (four p c f s) ws pages
+  after : {r : Result (Unit {0}) Refusal} → FormedAs s ws r ws' → onward (form_says r) (λ u. replay_in (form s ws).left pages) ≡ form_in s ws pages
   unfolding form_in
-  after e = ap (λ (z : Said (Unit {0})). onward z (λ u. replay_in (form (four p c f s) ws).left pages)) e
+  after x = ap (λ (z : Said (Unit {0})). onward z (λ u. replay_in (form s ws).left pages)) x.answer
 
-  -- The directory is formed, and v is what the replay in it makes.
-  pub after_form : {v : Five} → r ≡ formed.Done → v ≡ replay_in ws' pages → v ≡ form_in (four p c f s) ws pages
-  after_form e q = q ∙ ap (λ (w : List ℕ). replay_in w pages) x.memory ∙ after (case form_says x.answer e)
+  -- The directory is formed, and the replay in it follows.
+  pub after_form : {u : Unit {0}} → FormedAs s ws (Ok u) ws' → replay_in ws' pages ≡ form_in s ws pages
+  after_form x = ap (λ (w : List ℕ). replay_in w pages) x.memory ∙ after x
 
   -- Form refused.
-  pub form_ends : {q : Refusal} → r ≡ formed.Refused q → ended (refusal_says q) ≡ form_in (four p c f s) ws pages
-  form_ends e = after (case form_says x.answer e)
+  pub form_ends : {q : Refusal} → FormedAs s ws (Err q) ws' → ended (refusal_says q) ≡ form_in s ws pages
+  form_ends x = after x
 
 -- The words lent to form matter only by their number.
 form_any : (s : Settings) (ws ws₂ pages : List ℕ) → length ws ≡ length ws₂ → form_in s ws pages ≡ form_in s ws₂ pages
@@ -65,69 +62,72 @@ form_any s ws ws₂ pages e = go (eqb (refusal_of s) 0) refl (eqb (length ws₂)
 -- ── The length ──
 
 -- Accepted settings ask for at most 9,232 words.
-most_words : (p c f s : ℕ) → settings_refusal p c f s ≡ 0 → length_of (four p c f s) ≤ 9232
+most_words : (s : Settings) → settings_refusal s.policy s.C s.first s.second ≡ 0 → length_of s ≤ 9232
 unfolding length_of length_for bits_of
-most_words p c f s z = omega (arith, few_entries p c f s z, pow_mono (bits_small 10 0 (entries_of p c s)))
+most_words s z = omega (arith, few_entries s.policy s.C s.first s.second z, pow_mono (bits_small 10 0 (entries_of s.policy s.C s.second)))
 
-module _ {p c f s : ℕ} {w : WordsFor} (x : LongAs p c f s w) where
+module _ (s : Settings) where
   -- what follows the length
-  then : (pages : List ℕ) {a : Said ℕ} → a ≡ words_for (four p c f s) → onward a (λ n. form_in (four p c f s) (replicate n 0) pages) ≡ play_in (four p c f s) pages
+  then : (pages : List ℕ) {r : Result ℕ Refusal} → LongAs s r → onward (length_says r) (λ n. form_in s (replicate n 0) pages) ≡ play_in s pages
   unfolding play_in
-  then pages e = ap (λ (z : Said ℕ). onward z (λ n. form_in (four p c f s) (replicate n 0) pages)) e
+  then pages x = ap (λ (z : Said ℕ). onward z (λ n. form_in s (replicate n 0) pages)) x.answer
 
-  -- The length is given, and v is what forming and replaying in so many words makes.
-  pub after_length : (pages : List ℕ) {v : Five} {n : ℕ} (ws : List ℕ) → w ≡ long.Count n → n ≡ length ws → v ≡ form_in (four p c f s) ws pages → v ≡ play_in (four p c f s) pages
-  after_length pages {v} {n} ws e h q = q ∙ form_any (four p c f s) ws (replicate n 0) pages (sym h ∙ sym (length-replicate n 0)) ∙ then pages (case length_says x.answer e)
+  -- The length is given, and forming and replaying in so many words follows.
+  pub after_length : (pages ws : List ℕ) {n : ℕ} → LongAs s (Ok n) → n ≡ length ws → form_in s ws pages ≡ play_in s pages
+  after_length pages ws {n} x h = form_any s ws (replicate n 0) pages (sym h ∙ sym (length-replicate n 0)) ∙ then pages x
 
   -- The settings are refused.
-  pub length_ends : (pages : List ℕ) {q : Refusal} → w ≡ long.Refused q → ended (refusal_says q) ≡ play_in (four p c f s) pages
-  length_ends pages e = then pages (case length_says x.answer e)
+  pub length_ends : (pages : List ℕ) {q : Refusal} → LongAs s (Err q) → ended (refusal_says q) ≡ play_in s pages
+  length_ends pages x = then pages x
 
   -- No directory is longer than 9,232 words.
-  pub long_enough : {n : ℕ} → w ≡ long.Count n → n ≤ 9232
+  pub long_enough : {n : ℕ} → LongAs s (Ok n) → n ≤ 9232
   unfolding words_for refusal_of
-  long_enough {n} e = go (eqb (settings_refusal p c f s) 0) refl
+  long_enough {n} x = go (eqb (settings_refusal s.policy s.C s.first s.second) 0) refl
     where
-      go : (a : Bool) → eqb (settings_refusal p c f s) 0 ≡ a → n ≤ 9232
-      go false h = absurd (not_given {r = plain (settings_refusal p c f s)} (sym (case length_says x.answer e ∙ simp h)))
+      go : (a : Bool) → eqb (settings_refusal s.policy s.C s.first s.second) 0 ≡ a → n ≤ 9232
+      go false h = absurd (not_given {r = plain (settings_refusal s.policy s.C s.first s.second)} (sym (x.answer ∙ simp h)))
       go true h =
-          let q : ◌≡◌ {A = Said ℕ} (gave n) (gave (length_of (four p c f s))) = case length_says x.answer e ∙ simp h in
-          let k : n ≡ length_of (four p c f s) = cc q in
-          omega (arith, k, most_words p c f s (eqb-true _ 0 h))
+          let q : ◌≡◌ {A = Said ℕ} (gave n) (gave (length_of s)) = x.answer ∙ simp h in
+          let k : n ≡ length_of s = cc q in
+          omega (arith, k, most_words s (eqb-true _ 0 h))
+
+-- As many words go on as were asked for, of those lent.
+pub exact : (ws : List ℕ) {n : ℕ} → n ≤ 9232 → 9232 ≤ length ws → n ≡ length (take n ws)
+exact ws {n} h k = sym (length-take-le n ws (omega arith))
 
 -- ── Read ──
 
-module _ {text before after : List ℕ} {r : ReadText} (room : length before ≡ program_room) (x : ReadAs text before r after) where
+module _ (text before after : List ℕ) (room : length before ≡ program_room) where
   -- what follows the text
   then_text : {a : Said Contents} → read_text text (length before) ≡ a → onward a (λ t. play_in t.settings t.pages) ≡ programmed text
   unfolding programmed
   then_text e = ap (λ (a : Said Contents). onward a (λ t. play_in t.settings t.pages)) (sym e ∙ ap (read_text text) room)
 
-  module _ {p c f g n : ℕ} (e : r ≡ reads.Accepted p c f g n) where
-    found : Taken p c f g n (read_text text (length before))
+  module _ {a : Accepted} (x : ReadAs text before (Ok a) after) where
+    found : Taken a.settings.policy a.settings.capacity a.settings.first a.settings.second a.count (read_text text (length before))
     unfolding read
-    found = taken _ before (case read_says x.answer e)
+    found = taken _ before x.answer
 
     left : after ≡ over found.pages before
     unfolding read
     left = x.memory ∙ ap (λ (R : Said Contents). (on_text R before).left) found.is
 
     -- The pages stand in the buffer.
-    pub stored : length after ≡ length before → n ≤ length after
+    pub stored : a.count ≤ length after
     unfolding over
-    stored h = omega (arith, found.many, h, ap length left, length-append found.pages (drop (length found.pages) before))
+    stored = omega (arith, found.many, ap length left, length-append found.pages (drop (length found.pages) before))
 
-    -- The text is accepted, and v is what its pages make.
-    pub after_read : {v : Five} → v ≡ play_in (four p c f g) (take n after) → v ≡ programmed text
-    after_read q =
-        q
-        ∙ ap (play_in (four p c f g)) (ap (λ (k : ℕ). take k after) found.many ∙ ap (take (length found.pages)) left ∙ over_front found.pages before)
+    -- The text is accepted, and what its pages make follows.
+    pub after_read : play_in (asked a.settings) (take a.count after) ≡ programmed text
+    after_read =
+        ap (play_in (asked a.settings)) (ap (λ (k : ℕ). take k after) found.many ∙ ap (take (length found.pages)) left ∙ over_front found.pages before)
         ∙ then_text found.is
 
   -- The text is refused.
-  pub read_ends : {q : Refusal} → r ≡ reads.Refused q → ended (refusal_says q) ≡ programmed text
+  pub read_ends : {q : Refusal} → ReadAs text before (Err q) after → ended (refusal_says q) ≡ programmed text
   unfolding read refuse
-  read_ends {q} e = refused_as (read_text text (length before)) refl (case read_says x.answer e)
+  read_ends {q} x = refused_as (read_text text (length before)) refl x.answer
     where
       refused_as : (R : Said Contents) → read_text text (length before) ≡ R → refused (refusal_says q) ≡ (on_text R before).said → ended (refusal_says q) ≡ programmed text
       refused_as (refused k) d y = let z : refusal_says q ≡ k = cc y in ap ended z ∙ then_text d

@@ -2,146 +2,83 @@
 #![tactic(auto)]
 
 ghost use Rattle.std.specs.Prelude.{IfOk, ◌≡◌, ◌≤◌, length, take};
-ghost use Rattle.meaning.specs.Layout.{four};
-ghost use Rattle.meaning.specs.Answers.{refusal_says};
-ghost use Rattle.meaning.specs.Program.{ended, replay_in, form_in, play_in, program_room, programmed, five_lines};
+ghost use Rattle.meaning.specs.Answers.{replay_says};
+ghost use Rattle.meaning.specs.Program.{finished, onward, program_room, programmed, five_lines};
 ghost use Rattle.replay_program.specs.Numbers.{five_of};
 
-use meaning::{Formed, ReadText, Refusal, Replayed, WordsFor};
+use meaning::{Counts, Refusal};
+use policies::{form, words_for};
+use replay::replay;
 use std::io;
 use std::io::{Read, Write};
+use text_lines::put_line;
 
 // The numbers of the five lines.
 #[derive(Clone, Copy)]
 struct Five {
     refused: u32,
     line: u32,
-    hits: u32,
-    loads: u32,
-    swaps: u32,
+    counts: Counts,
 }
 
-// A refusal ends the program, with its number and the line that it carries: unused numbers are 0.
-fn ended_by(refusal: Refusal) -> Five
-    ensures { five_of result ≡ ended (refusal_says refusal) }
+// Reads a text, forms a directory in as many words as form asks, and replays the pages in it; the first refusal ends it.
+fn replay_text(text: &[u8], trace: &mut [u32], words: &mut [u32]) -> Result<Counts, Refusal>
+    requires { (length trace.old ≡ program_room) × (9232 ≤ length words.old) }
+    ensures { onward (replay_says result) finished ≡ programmed text.now }
 {
-    Five {
-        refused: refusal.number,
-        line: refusal.carried,
-        hits: 0,
-        loads: 0,
-        swaps: 0,
-    }
+    let head = trace_text::read(text, trace)?;
+    let n = words_for(head.settings)?;
+    let directory = &mut words[..n as usize];
+    form(head.settings, directory)?;
+    replay(directory, &trace[..head.count as usize])
 }
 
-// Replays the pages in the words of a directory.
-fn replay_in(words: &mut [u32], pages: &[u32]) -> Five
-    ensures { five_of result ≡ replay_in words.old pages.now }
+// The numbers of the five lines: a refusal's number and the line that it carries, or the counts; unused numbers are 0.
+fn numbers(played: Result<Counts, Refusal>) -> Five
+    ensures { five_of result ≡ onward (replay_says played) finished }
 {
-    let r = replay::replay(words, pages);
-    match r {
-        Replayed::Counts { hits, loads, swaps } => Five {
+    match played {
+        Ok(counts) => Five {
             refused: 0,
             line: 0,
-            hits,
-            loads,
-            swaps,
+            counts,
         },
-        Replayed::Refused(refusal) => ended_by(refusal),
+        Err(refusal) => Five {
+            refused: refusal.number(),
+            line: refusal.carried(),
+            counts: Counts {
+                hits: 0,
+                loads: 0,
+                swaps: 0,
+            },
+        },
     }
 }
 
-// Forms a directory in the words, and replays the pages in it.
-fn form_in(
-    policy: u32,
-    capacity: u32,
-    first: u32,
-    second: u32,
-    words: &mut [u32],
-    pages: &[u32],
-) -> Five
-    ensures { five_of result ≡ form_in (four policy capacity first second) words.old pages.now }
+// Writes the five lines at the front of a buffer that they always fit in, and gives their length: five calls, since a loop over pairs of a key and a number is longer.
+#[tactic(auto, using(crate::proofs::Writing::line_short))]
+fn write_five(five: Five, out: &mut [u8; 96]) -> usize
+    ensures { (take result out.new ≡ five_lines (five_of five)) × (result ≤ length out.new) }
 {
-    let f = policies::form(policy, capacity, first, second, words);
-    match f {
-        Formed::Done => replay_in(words, pages),
-        Formed::Refused(refusal) => ended_by(refusal),
-    }
+    let a = put_line(out, 0, b"refused=", five.refused);
+    let b = put_line(out, a, b"line=", five.line);
+    let c = put_line(out, b, b"hits=", five.counts.hits);
+    let d = put_line(out, c, b"loads=", five.counts.loads);
+    put_line(out, d, b"swaps=", five.counts.swaps)
 }
 
-// Forms and replays in as many words as form asks, from the front of those that any directory fits in.
-fn play_in(
-    policy: u32,
-    capacity: u32,
-    first: u32,
-    second: u32,
-    words: &mut [u32],
-    pages: &[u32],
-) -> Five
-    requires { 9232 ≤ length words.old }
-    ensures { five_of result ≡ play_in (four policy capacity first second) pages.now }
-{
-    let w = policies::words_for(policy, capacity, first, second);
-    match w {
-        WordsFor::Count { words: n } => form_in(
-            policy,
-            capacity,
-            first,
-            second,
-            &mut words[..n as usize],
-            pages,
-        ),
-        WordsFor::Refused(refusal) => ended_by(refusal),
-    }
-}
-
-// Reads, forms and replays; the first refusal ends it.
-fn replay_text(text: &[u8], trace: &mut [u32], words: &mut [u32]) -> Five
-    requires { (length trace.old ≡ program_room) × (9232 ≤ length words.old) }
-    ensures { five_of result ≡ programmed text.now }
-{
-    let r = trace_text::read(text, trace);
-    match r {
-        ReadText::Accepted {
-            policy,
-            capacity,
-            first,
-            second,
-            count,
-        } => play_in(
-            policy,
-            capacity,
-            first,
-            second,
-            words,
-            &trace[..count as usize],
-        ),
-        ReadText::Refused(refusal) => ended_by(refusal),
-    }
-}
-
-// Writes the five lines at the front of a buffer that they always fit in, and gives their length.
-fn write_five(r: Five, out: &mut [u8; 96]) -> usize
-    ensures { (take result out.new ≡ five_lines (five_of r)) × (result ≤ length out.new) }
-{
-    let a = text_lines::put_line(out, 0, b"refused=", r.refused);
-    let b = text_lines::put_line(out, a, b"line=", r.line);
-    let c = text_lines::put_line(out, b, b"hits=", r.hits);
-    let d = text_lines::put_line(out, c, b"loads=", r.loads);
-    text_lines::put_line(out, d, b"swaps=", r.swaps)
-}
-
-// The whole program, from the text that was read to the bytes that are written: their length, at the front of a buffer that they always fit in.
+// The whole program, from the text that was read to the bytes that are written: their length, at the front of a buffer that they always fit in, as there is no heap.
 fn answer(text: &[u8], out: &mut [u8; 96]) -> usize
     ensures { (take result out.new ≡ five_lines (programmed text.now)) × (result ≤ length out.new) }
 {
     let mut trace = [0u32; 9362];
     let mut words = [0u32; 9232];
-    let five = replay_text(text, &mut trace, &mut words);
-    write_five(five, out)
+    let played = replay_text(text, &mut trace, &mut words);
+    write_five(numbers(played), out)
 }
 
 // Fills the buffer from its front with what is read, up to its end or the input's, and gives how many bytes that are.
+// A loop by hand: no heap for read_to_end, read_exact does not tell how many bytes came before the end, and copy reads again where this fails.
 fn read_full(input: &mut impl Read, text: &mut [u8]) -> io::Result<usize>
     ensures { IfOk result (λ n. n ≤ length text.new) }
 {

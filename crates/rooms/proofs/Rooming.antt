@@ -1,52 +1,62 @@
 -- Room for a page and what comes in, from what the layer promises: over any entry, list and room.
 use Prim.Native.Nat.{ℕ, ◌<◌}
-use mathlib.Core.Path.{◌≡◌, refl, sym, ap₂, ◌∙◌, subst}
+use mathlib.Core.Path.{◌≡◌, sym, ap, ap₂, ◌∙◌, subst}
 use mathlib.Core.List.{List}
 use native.Mathlib.Omega.{arith}
 use lib.Dec.{eqb, leb}
-use borrow.Author.Tests.{eq-eqb, ne_eqb}
+use borrow.Author.Tests.{ne_eqb}
 use Rattle.meaning.specs.declared.Answer.{Answer}
 use Rattle.meaning.specs.declared.Answer.TheVariants.{Hit, Loaded, Swapped}
-use Rattle.std.specs.Prelude.{if◌then◌else◌}
+use Rattle.std.specs.Prelude.{Option, Some, None, IfSome, if◌then◌else◌}
 use Rattle.meaning.specs.Neighbours.{NONE}
 use Rattle.meaning.specs.Layout.{cell_at, page_col, slot_col}
 use Rattle.meaning.specs.Mem.{Mem, word, held, full, free_slot, to_front, move_to, clear, enter, capacity_in, entry_count}
 use Rattle.meaning.specs.Room.{hit, loaded, swapped, Done, Room, as_it_is, put_out, put_out_to, hit_at, load, enters, returns}
-use Rattle.meaning.specs.Calls.{gave}
-use Rattle.meaning.specs.Answers.{request_says}
+use Rattle.meaning.specs.Answers.{reply_of}
 use Rattle.invariants.specs.Places.{top, cell, page, slot, Repr, Ready, Turns, Says, Any}
 use Rattle.lists.specs.Asked.{OnList, Kept}
 use Rattle.lists.specs.Asked as asked
 use Rattle.lists.specs.Told.{Gives}
-use Rattle.rooms.specs.declared.Freed.{Freed}
-use Rattle.rooms.specs.Rooms.{Ends, Serves, Clears, Frees, filling, given, entering, returning, hit_front, loading, out_of, out_to, Then}
+use Rattle.rooms.specs.declared.freed.Freed.{Freed}
+use Rattle.rooms.specs.Rooms.{Ends, Serves, Clears, Frees, filling, given, entering, returning, hit_front, loading, page_or_none, out_of, out_to, leaving, Then}
 
 -- whether C are held
 pub full_says : {ws : List ℕ} {c n : ℕ} → c ≡ capacity_in ws → Says ws (Gives held n) → Says ws (Gives full (leb c n))
 unfolding full
 full_says e s = record { of = λ m R. record { is = ap₂ leb (e ∙ R.holds.at (top 1) (omega arith)) (s.of m R).is } }
 
+-- a directory of one kind is of another
+pub ready_as : {ws : List ℕ} {ok ok' : Mem → Type 0} → ((m : Mem) → Repr ws m → ok m → ok' m) → Ready ws ok → Ready ws ok'
+ready_as h o = record { mem = o.mem; repr = o.repr; meets = h o.mem o.repr o.meets }
+
 -- ── Room ──
 
 -- nothing put out
-pub frees_none : {ws : List ℕ} {s : ℕ} → Says ws (Gives free_slot s) → Frees ws ws Any as_it_is (record { slot = s; out = NONE })
+pub frees_none : {ws : List ℕ} {f : Freed} → Says ws (Gives free_slot f.slot) → f.out ≡ None → Frees ws ws Any as_it_is f
 unfolding as_it_is
-frees_none a = record { to = λ m R o. record { repr = R; slot = (a.of m R).is; out = refl } }
+frees_none a z = record { to = λ m R o. record { repr = R; slot = (a.of m R).is; out = ap page_or_none z } }
 
-module _ {ws ws' : List ℕ} {e s x : ℕ} (es : s ≡ word ws (cell_at e slot_col)) (ex : x ≡ word ws (cell_at e page_col)) where
+-- a page that is put out is not NONE
+pub page_real : {ws : List ℕ} {e x : ℕ} → x ≡ word ws (cell_at e page_col) → x < 4294967296 → Ready ws (Kept e) → x < 4294967295
+page_real {e = e} {x = x} ex h o =
+    let k = o.meets in
+    let z : x ≡ NONE → ⊥ = λ y. o.repr.fine.used _ e k.hung (sym (ex ∙ o.repr.holds.at (cell page e) k.listed.within) ∙ y) in
+    omega (arith, h, z)
+
+module _ {ws ws' : List ℕ} {e x : ℕ} {g : Option ℕ} {f : Freed} (es : f.slot ≡ word ws (cell_at e slot_col)) (ex : x ≡ word ws (cell_at e page_col)) (z : f.out ≡ Some x) where
   -- an entry put out and removed
-  pub frees_out : Turns ws ws' (Kept e) (clear e) → Frees ws ws' (Kept e) (out_of e) (record { slot = s; out = x })
+  pub frees_out : g ≡ None → Turns ws ws' (Kept e) (clear e) → Frees ws ws' (Kept e) (leaving e g) f
   unfolding out_of put_out
-  frees_out t = record {
-    to = λ m R o. let h = o.listed.within in record { repr = t.to m R o; slot = es ∙ R.holds.at (cell slot e) h; out = ex ∙ R.holds.at (cell page e) h };
-  }
+  frees_out y t = rw y (record {
+    to = λ m R o. let h = o.listed.within in record { repr = t.to m R o; slot = es ∙ R.holds.at (cell slot e) h; out = ap page_or_none z ∙ ex ∙ R.holds.at (cell page e) h };
+  })
 
   -- an entry put out to the ghosts
-  pub frees_to : (j : ℕ) → Turns ws ws' (OnList e) (move_to e j NONE) → Frees ws ws' (OnList e) (out_to e j) (record { slot = s; out = x })
+  pub frees_to : {j : ℕ} → g ≡ Some j → Turns ws ws' (OnList e) (move_to e j NONE) → Frees ws ws' (Kept e) (leaving e g) f
   unfolding out_to put_out_to
-  frees_to j t = record {
-    to = λ m R o. let h = o.within in record { repr = t.to m R o; slot = es ∙ R.holds.at (cell slot e) h; out = ex ∙ R.holds.at (cell page e) h };
-  }
+  frees_to y t = rw y (record {
+    to = λ m R o. let h = o.listed.within in record { repr = t.to m R o.listed; slot = es ∙ R.holds.at (cell slot e) h; out = ap page_or_none z ∙ ex ∙ R.holds.at (cell page e) h };
+  })
 
 -- room under another condition and by another name
 pub frees_as : {ws ws' : List ℕ} {ok ok' : Mem → Type 0} {room room' : Mem → Room} {f : Freed}
@@ -56,34 +66,35 @@ frees_as {ws' = ws'} {f = f} F h = record { to = λ m R o. subst (Clears ws' f) 
 -- ── What comes in ──
 
 -- Loaded, where nothing was put out
-pub says_loaded : (f : Freed) (c : ℕ) → f.out ≡ NONE → request_says (Loaded f.slot c) ≡ gave (loading f c)
+pub says_loaded : (f : Freed) (c : ℕ) → f.out ≡ None → reply_of (Loaded f.slot c) ≡ loading f c
 unfolding loading
 says_loaded f c z =
-    let k : loaded ≡ (if eqb f.out NONE then loaded else swapped) = simp (eq-eqb f.out NONE z) in
-    λ i. gave (record { kind = k i; slot = f.slot; out = sym z i; cleared = c })
+    let k : loaded ≡ (if eqb (page_or_none f.out) NONE then loaded else swapped) = simp z in
+    λ i. record { kind = k i; slot = f.slot; out = page_or_none (sym z i); cleared = c }
 
 -- Swapped, where a page was
-pub says_swapped : (f : Freed) (c : ℕ) → (f.out ≡ NONE → ⊥) → request_says (Swapped f.slot f.out c) ≡ gave (loading f c)
+pub says_swapped : (f : Freed) (p c : ℕ) → f.out ≡ Some p → reply_of (Swapped f.slot p c) ≡ loading f c
 unfolding loading
-says_swapped f c z =
-    let k : swapped ≡ (if eqb f.out NONE then loaded else swapped) = simp (ne_eqb f.out NONE z) in
-    λ i. gave (record { kind = k i; slot = f.slot; out = f.out; cleared = c })
+says_swapped f p c z =
+    let h : p < 4294967295 = subst (λ (o : Option ℕ). IfSome o (λ (q : ℕ). q < 4294967295)) z f.real in
+    let k : swapped ≡ (if eqb (page_or_none f.out) NONE then loaded else swapped) = simp (z, ne_eqb p NONE (λ y. omega (arith, y, h))) in
+    λ i. record { kind = k i; slot = f.slot; out = page_or_none (sym z i); cleared = c }
 
 module _ {ws ws' : List ℕ} {r : Answer} (f : Freed) where
   -- a new page
-  pub serves_enter : {p : ℕ} (j : ℕ) → Turns ws ws' (asked.Admits p) (enter p j f.slot) → request_says r ≡ gave (loading f 0) → Serves ws ws' (asked.Admits p) (given f (entering p j)) r
+  pub serves_enter : {p : ℕ} (j : ℕ) → Turns ws ws' (asked.Admits p) (enter p j f.slot) → reply_of r ≡ loading f 0 → Serves ws ws' (asked.Admits p) (given f (entering p j)) r
   unfolding given entering enters load loading
   serves_enter j t e = record { to = λ m R o. record { repr = t.to m R o; says = e } }
 
   -- a ghost
-  pub serves_return : {e : ℕ} (j : ℕ) → Turns ws ws' (OnList e) (move_to e j f.slot) → request_says r ≡ gave (loading f 0) → Serves ws ws' (OnList e) (given f (returning e j)) r
+  pub serves_return : {e : ℕ} (j : ℕ) → Turns ws ws' (OnList e) (move_to e j f.slot) → reply_of r ≡ loading f 0 → Serves ws ws' (OnList e) (given f (returning e j)) r
   unfolding given returning returns load loading
   serves_return j t e = record { to = λ m R o. record { repr = t.to m R o; says = e } }
 
 -- a hit
-pub says_hit : {ws : List ℕ} {e s : ℕ} → s ≡ word ws (cell_at e slot_col) → (m : Mem) → Repr ws m → e < entry_count m → (after : Mem) → request_says (Hit s 0) ≡ gave (hit_at m e after).reply
+pub says_hit : {ws : List ℕ} {e s : ℕ} → s ≡ word ws (cell_at e slot_col) → (m : Mem) → Repr ws m → e < entry_count m → (after : Mem) → reply_of (Hit s 0) ≡ (hit_at m e after).reply
 unfolding hit_at
-says_hit {e = e} es m R h after = let k = es ∙ R.holds.at (cell slot e) h in λ i. gave (record { kind = hit; slot = k i; out = NONE; cleared = 0 })
+says_hit {e = e} es m R h after = let k = es ∙ R.holds.at (cell slot e) h in λ i. record { kind = hit; slot = k i; out = NONE; cleared = 0 }
 
 -- a hit on an entry that goes to the front of list j
 pub serves_front : {ws ws' : List ℕ} {e s : ℕ} (j : ℕ) → s ≡ word ws (cell_at e slot_col) → Turns ws ws' (OnList e) (to_front e j) → Serves ws ws' (OnList e) (hit_front e j) (Hit s 0)
@@ -103,7 +114,7 @@ unfolding filling given
 room_serves {ws₂ = ws₂} {room = room} {f = f} load {r = r} F S = record {
   to = λ m R o.
       let k = F.to m R o.asks in
-      let same : record { mem = (room m).mem; slot = f.slot; out = f.out } ≡ room m = λ i. record { mem = (room m).mem; slot = k.slot i; out = k.out i } in
+      let same : record { mem = (room m).mem; slot = f.slot; out = page_or_none f.out } ≡ room m = λ i. record { mem = (room m).mem; slot = k.slot i; out = k.out i } in
       subst (λ (x : Room). Ends ws₂ r (load x)) same (S.to (room m).mem k.repr o.leaves);
 }
 

@@ -1,31 +1,33 @@
 -- Room made leaves what a page that comes in asks for: over any step that makes room.
 use Prim.Native.Nat.{ℕ, ◌+◌, ◌*◌, ◌≤◌, ◌<◌}
-use mathlib.Core.Path.{◌≡◌, sym, ap, ◌∙◌}
+use mathlib.Core.Path.{◌≡◌, refl, sym, ap, ◌∙◌}
 use mathlib.Core.Bool.{true, false}
 use mathlib.Core.List.{List}
 use native.Mathlib.Omega.{arith}
 use lib.Dec.{ltb}
 use lib.ListN.{length}
 use borrow.Author.Tests.{lt-ltb, le-ltb, leb-true}
+use Rattle.meaning.specs.declared.Answer.{Answer}
 use Rattle.index.specs.declared.Found.{Found}
-use Rattle.index.specs.declared.Found.TheVariants.{At, Nothing}
+use Rattle.std.specs.Prelude.{Option, Some, None}
 use Rattle.meaning.specs.Neighbours.{NONE}
 use Rattle.meaning.specs.Layout.{is_held, cell_at, list_col}
 use Rattle.meaning.specs.Mem.{Mem, word, entry_of, list_on, held, full, size, back, lowest, capacity_of, entry_count}
-use Rattle.meaning.specs.Room.{Room, as_it_is}
+use Rattle.meaning.specs.Room.{Done, Room, as_it_is}
 use Rattle.meaning.specs.Lru.{lru_room}
 use Rattle.invariants.specs.Places.{top, Repr, Ready, Says, cell, list}
 use Rattle.invariants.specs.Proper.{Indexed, Proper}
 use Rattle.theorems.specs.Goes.{Out, Made}
 use Rattle.theorems.proofs.Operations.{lowest_free}
-use Rattle.theorems.proofs.Rooms.{list_is}
+use Rattle.theorems.proofs.Rooms.{list_is, list_none}
 use Rattle.theorems.proofs.Counts.{held_sizes, spare}
 use Rattle.theorems.proofs.Lru.{lru_room_lem}
 use Rattle.lists.specs.Asked.{OnList}
 use Rattle.lists.specs.Asked as asked
 use Rattle.lists.specs.Told.{GivesOf, Answers}
 use Rattle.lists.proofs.Finding.{FoundAt, found_at, FoundNone, found_none}
-use Rattle.rooms.specs.Rooms.{Lined, HasBack, Evicts, Then}
+use Rattle.rooms.specs.Rooms.{Serves, Lined, HasBack, Evicts, Then, Missing}
+use Rattle.rooms.proofs.Rooming.{ready_as, serves_as}
 use Rattle.rooms.proofs.Backs.{on_list, back_on}
 
 -- all that a directory keeps of its pages and lists
@@ -79,7 +81,7 @@ module _ {ws : List ℕ} {k n x : ℕ} (t : ℕ) (ht : t < 7) (s : Says ws (Give
 
 -- a list that is over a size has a back
 pub over_back : {ws : List ℕ} {k n x : ℕ} → Says ws (GivesOf size k n) → x < n → Ready ws Lined → Ready ws (HasBack k)
-over_back s h o = record { mem = o.mem; repr = o.repr; meets = record { lined = o.meets; some = omega (arith, (s.of o.mem o.repr).is) } }
+over_back s h = ready_as (λ m R o. record { lined = o; some = omega (arith, (s.of m R).is) })
 
 -- which can be moved
 pub over_on : {ws : List ℕ} {k n x e : ℕ} → Says ws (GivesOf size k n) → x < n → Says ws (GivesOf back k e) → 1 ≤ k → Ready ws Lined → Ready ws (OnList e)
@@ -95,30 +97,44 @@ pub record Hits (p e : ℕ) (m : Mem) : Type 0 where
   pub entry : entry_of m p ≡ e
   pub list : list_on m p ≡ m.lists e
 
-module _ {ws : List ℕ} {p : ℕ} {r : Found} (a : Says ws (Answers p r)) where
+module _ {ws : List ℕ} {p : ℕ} {r : Option Found} (a : Says ws (Answers p r)) where
   -- the entry that was found has the page
-  pub found_entry : {e b : ℕ} → r ≡ At e b → (m : Mem) → Repr ws m → FoundAt p e b m
+  pub found_entry : {f : Found} → r ≡ Some f → (m : Mem) → Repr ws m → FoundAt p f.entry f.before m
   found_entry z m R = found_at m R.fine (rw z at (a.of m R))
 
   -- the words of the entry may be read
-  pub found_room : {ok : Mem → Type 0} {e b : ℕ} → r ≡ At e b → Ready ws ok → 16 + 8 * e + 8 ≤ length ws
+  pub found_room : {ok : Mem → Type 0} {f : Found} → r ≡ Some f → Ready ws ok → 16 + 8 * f.entry + 8 ≤ length ws
   found_room z o = omega (arith, o.repr.holds.size, (found_entry z o.mem o.repr).hung.within)
 
   -- its list is what its word says
-  pub found_list : {e b j : ℕ} → r ≡ At e b → j ≡ word ws (cell_at e list_col) → (m : Mem) → Repr ws m → m.lists e ≡ j
-  found_list {e} z ej m R = sym (ej ∙ R.holds.at (cell list e) (found_entry z m R).hung.within)
+  pub found_list : {f : Found} {j : ℕ} → r ≡ Some f → j ≡ word ws (cell_at f.entry list_col) → (m : Mem) → Repr ws m → m.lists f.entry ≡ j
+  found_list {f} z ej m R = sym (ej ∙ R.holds.at (cell list f.entry) (found_entry z m R).hung.within)
 
   -- it is on a list
-  pub hits : {e b : ℕ} → r ≡ At e b → p < NONE → (m : Mem) → Repr ws m → Lined m → Hits p e m
-  hits {e} z hp m R L =
+  pub hits : {f : Found} → r ≡ Some f → p < NONE → (m : Mem) → Repr ws m → Lined m → Hits p f.entry m
+  hits {f} z hp m R L =
+      let e = f.entry in
       let k = found_entry z m R in
       let u : m.lists e ≡ 0 → ⊥ = λ y. omega (arith, k.page, L.ordered.idle e y) in
       record { on = on_list m L e u; used = u; page = k.page; entry = k.entry; list = list_is m L.indexed p hp e k.page }
 
   -- it can be moved
-  pub found_on : {ok : Mem → Type 0} {e b : ℕ} → r ≡ At e b → p < NONE → ((m : Mem) → ok m → Lined m) → Ready ws ok → Ready ws (OnList e)
-  found_on z hp h o = record { mem = o.mem; repr = o.repr; meets = (hits z hp o.mem o.repr (h o.mem o.meets)).on }
+  pub found_on : {ok : Mem → Type 0} {f : Found} → r ≡ Some f → p < NONE → ((m : Mem) → ok m → Lined m) → Ready ws ok → Ready ws (OnList f.entry)
+  found_on z hp h = ready_as (λ m R o. (hits z hp m R (h m o)).on)
 
   -- no entry has a page that was not found
-  pub found_nothing : r ≡ Nothing → p < NONE → (m : Mem) → Repr ws m → Indexed m → FoundNone p m
+  pub found_nothing : r ≡ None → p < NONE → (m : Mem) → Repr ws m → Indexed m → FoundNone p m
   found_nothing z hp m R I = found_none m I hp (rw z at (a.of m R))
+
+  -- so it is on no list
+  pub found_off : r ≡ None → p < NONE → (m : Mem) → Repr ws m → Indexed m → list_on m p ≡ 0
+  found_off z hp m R I = list_none m I p hp (found_nothing z hp m R I).absent
+
+  -- and missing
+  pub missing : {ok : Mem → Type 0} → r ≡ None → p < NONE → ((m : Mem) → ok m → Indexed m) → Ready ws ok → Ready ws (Missing ok p)
+  missing z hp h = ready_as (λ m R o. record { kind = o; real = hp; absent = (found_nothing z hp m R (h m o)).absent })
+
+  -- and is served as such
+  pub missed : {ok : Mem → Type 0} {ws' : List ℕ} {step : Mem → Done} {y : Answer} → r ≡ None → p < NONE → ((m : Mem) → ok m → Indexed m)
+      → Serves ws ws' (Missing ok p) step y → Serves ws ws' ok step y
+  missed z hp h S = serves_as S (λ m R o. (record { kind = o; real = hp; absent = (found_nothing z hp m R (h m o)).absent }, refl))

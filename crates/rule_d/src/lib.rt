@@ -1,123 +1,68 @@
 // Rule d: the lists.
 #![tactic(auto)]
 
-ghost use Rattle.std.specs.Prelude.{◌≡◌, ◌+◌, ◌≤◌, ◌<◌};
-ghost use Rattle.meaning.specs.Base.{every};
+ghost use Rattle.std.specs.Prelude.{◌≡◌, ◌≤◌, ◌<◌};
 ghost use Rattle.meaning.specs.Mem.{E};
 ghost use Rattle.meaning.specs.Rules.{list_right, clock_right, end_none, rule_d};
-ghost use Rattle.readers.specs.Sized.{Sized};
-ghost use Rattle.rule_d.specs.Parts.{passes, Ready};
 
-use cells::{cell, head_at, tail_at, word};
-use readers::{count_on, is_used};
-use settings::{ENTRIES, LIST, NEXT, NONE, POLICY, PREVIOUS, SLOT, has_order};
+use cells::{head_at, tail_at, word};
+use readers::Entries;
+use settings::{LIST, NEXT, NONE, POLICY, PREVIOUS, SLOT, has_order};
 
-// Rule d for list j: a walk by next from its head, each previous on the way, its tail and its count.
-fn list_right(words: &[u32], j: u32) -> bool
-    requires { Sized words.now × (1 ≤ j) × (j ≤ 4) }
-    ensures { result ≡ list_right words.now j }
+// Rule d for list j: a walk by next from its head, each previous on the way, its tail and its count. No `Walk`, which asks that the links may be followed: that is what is judged here.
+fn list_right(d: &Entries, j: u32) -> bool
+    requires { (1 ≤ j) × (j ≤ 4) }
+    ensures { result ≡ list_right d.now.words.now j }
 {
-    let n = word(words, ENTRIES);
-    let mut e = word(words, head_at(j));
+    let n = d.len();
+    let mut e = word(d.words, head_at(j));
     let mut before = NONE;
-    let mut left = n + 1;
-    while e != NONE {
-        if left == 0 {
-            return false;
+    for visited in 0..=n {
+        if e == NONE {
+            return word(d.words, tail_at(j)) == before && d.count_on(j) == visited;
         }
         if n <= e {
             return false;
         }
-        if cell(words, e, LIST) != j {
+        if d.cell(e, LIST) != j {
             return false;
         }
-        let lost = cell(words, e, PREVIOUS) != before;
+        let lost = d.cell(e, PREVIOUS) != before;
         if lost {
             return false;
         }
         before = e;
-        e = cell(words, e, NEXT);
-        left -= 1;
+        e = d.cell(e, NEXT);
     }
-    if word(words, tail_at(j)) != before {
-        return false;
-    }
-    if count_on(words, j) != n + 1 - left {
-        return false;
-    }
-    true
+    false
 }
 
 // Rule d for entry i of a CLOCK directory.
-fn clock_right(words: &[u32], i: u32) -> bool
-    requires { Sized words.now × (i < E words.now) }
-    ensures { result ≡ clock_right words.now i }
+#[tactic(auto, unfolding(meaning::specs::Rules::clock_right))]
+fn clock_right(d: &Entries, i: u32) -> bool
+    requires { i < E d.now.words.now }
+    ensures { result ≡ clock_right d.now.words.now i }
 {
-    if cell(words, i, PREVIOUS) != NONE {
-        return false;
-    }
-    if cell(words, i, NEXT) != NONE {
-        return false;
-    }
-    if !is_used(words, i) {
-        return true;
-    }
-    cell(words, i, SLOT) == i
+    d.cell(i, PREVIOUS) == NONE
+        && d.cell(i, NEXT) == NONE
+        && (!d.is_used(i) || d.cell(i, SLOT) == i)
 }
 
 // Rule d for the head or tail h of a CLOCK directory, of eight in a row.
-fn end_none(words: &[u32], h: u32) -> bool
-    requires { Sized words.now × (h < 8) }
-    ensures { result ≡ end_none words.now h }
+#[tactic(auto, unfolding(meaning::specs::Rules::end_none))]
+fn end_none(d: &Entries, h: u32) -> bool
+    requires { h < 8 }
+    ensures { result ≡ end_none d.now.words.now h }
 {
-    word(words, head_at(1) + h as usize) == NONE
-}
-
-// What rule d asks of every head and tail, of every entry of CLOCK or of every list.
-#[derive(Clone, Copy)]
-enum Part {
-    End,
-    Clock,
-    Listed,
-}
-
-// Part of the rule, at i.
-fn passes(part: Part, words: &[u32], i: u32) -> bool
-    requires { Sized words.now × Ready part words.now (i + 1) }
-    ensures { result ≡ passes part words.now i }
-{
-    match part {
-        Part::End => end_none(words, i),
-        Part::Clock => clock_right(words, i),
-        Part::Listed => list_right(words, i + 1),
-    }
-}
-
-// Part of the rule, at each number below n.
-fn every(part: Part, words: &[u32], n: u32) -> bool
-    requires { Sized words.now × Ready part words.now n }
-    ensures { result ≡ every n (passes part words.now) }
-{
-    let mut i: u32 = 0;
-    while i < n {
-        if !passes(part, words, i) {
-            return false;
-        }
-        i += 1;
-    }
-    true
+    word(d.words, head_at(1) + h as usize) == NONE
 }
 
 // Rule d: each list is right; for CLOCK, whose lists have no order, each head, tail and entry.
-pub fn rule_d(words: &[u32]) -> bool
-    requires { Sized words.now }
-    ensures { result ≡ rule_d words.now }
+pub fn rule_d(d: &Entries) -> bool
+    ensures { result ≡ rule_d d.now.words.now }
 {
-    if has_order(word(words, POLICY)) {
-        return every(Part::Listed, words, 4);
+    if has_order(word(d.words, POLICY)) {
+        return (1..5).all(|j| list_right(d, j));
     }
-    if every(Part::End, words, 8) {
-        return every(Part::Clock, words, word(words, ENTRIES));
-    }
-    false
+    (0..8).all(|h| end_none(d, h)) && (0..d.len()).all(|i| clock_right(d, i))
 }

@@ -8,12 +8,11 @@ ghost use Rattle.invariants.specs.Assumed.{Segmented};
 ghost use Rattle.rooms.specs.Rooms.{Serves, asking, Lined, Fronts};
 ghost use Rattle.segmented.specs.Inner.{hit_spill};
 
-use lists::Found;
 use meaning::Answer;
-use rooms::{enter_lru, hit_front};
+use rooms::{LruRoom, enter_after, hit_front};
 use settings::{FIRST, LIST};
 
-// If Q is now over first, its back goes to the front of P.
+// If Q is now over first, its back goes to the front of P. Apart from `trim` of 2Q and `shorten` of ARC: each compares other numbers and does something else with the back.
 fn spill(words: &mut [u32])
     requires { Ready words.old Lined }
     ensures { Turns words.old words.new Lined spill }
@@ -43,13 +42,12 @@ pub fn segmented_step(words: &mut [u32], page: u32) -> Answer
     requires page_bound { page < 4294967295 }
     ensures { Serves words.old words.new Segmented (asking segmented page) result }
 {
-    let f = lists::find(words, page);
-    let Found::At(e, _) = f else {
-        return enter_lru(words, page);
+    let Some(found) = lists::find(words, page) else {
+        return enter_after(LruRoom, words, page);
     };
-    let j = lists::cell(words, e, LIST);
+    let j = lists::cell(words, found.entry, LIST);
     if j == 2 {
-        return hit_front(words, e, 2);
+        return hit_front(words, found.entry, 2);
     }
-    hit_spill(words, e)
+    hit_spill(words, found.entry)
 }

@@ -2,8 +2,12 @@
 #![tactic(auto)]
 
 ghost use Rattle.std.specs.Prelude.{not, ◌≡◌, ◌^◌, ◌≤◌, ◌<◌};
-ghost use Rattle.meaning.specs.Layout.{lists_of, is_list, is_held, is_clock, is_split, entries_of, bits_of, length_for, bucket_of, least_capacity, first_fits, second_fits, settings_refusal, mark_limit};
+ghost use Rattle.meaning.specs.Layout.{lists_of, is_list, is_held, is_clock, is_split, entries_of, bits_of, length_for, bucket_of, least_capacity, first_fits, second_fits, mark_limit};
+ghost use Rattle.meaning.specs.Answers.{asked, says};
 ghost use Rattle.meaning.specs.Rules.{word6_fits, arc_sizes, sizes_right};
+ghost use Rattle.settings.specs.Policies.{number_of, IsOfNumber, judged};
+
+use meaning::{Refusal, Settings};
 
 // No entry, no page, no slot.
 pub const NONE: u32 = 4294967295;
@@ -48,115 +52,118 @@ pub const UNIT: u32 = 1;
 // The largest capacity.
 const LARGEST: u32 = 512;
 
-// Policies by their numbers.
-pub const LRU: u32 = 1;
-
-pub const CLOCK: u32 = 2;
-
-pub const SEGMENTED: u32 = 3;
-
-pub const TWO_Q: u32 = 4;
-
-pub const ARC: u32 = 5;
-
-// Policies 3 and 4, whose first setting is a size.
-fn is_split(policy: u32) -> bool
-    ensures { result ≡ is_split policy }
-{
-    if policy == SEGMENTED {
-        return true;
-    }
-    policy == TWO_Q
+// A policy that form accepts.
+#[derive(Clone, Copy, Debug, PartialEq, Eq)]
+pub enum Policy {
+    Lru,
+    Clock,
+    Segmented,
+    TwoQ,
+    Arc,
 }
 
-// The least capacity of a policy.
-fn least_capacity(policy: u32) -> u32
-    ensures { result ≡ least_capacity policy }
-{
-    if is_split(policy) {
-        return 2;
-    }
-    1
-}
+impl TryFrom<u32> for Policy {
+    type Error = Refusal;
 
-// The first setting is 1 to C-1 for policies 3 and 4, 0 for any other.
-fn first_fits(policy: u32, capacity: u32, first: u32) -> bool
-    ensures { result ≡ first_fits policy capacity first }
-{
-    if is_split(policy) {
-        if first < 1 {
-            return false;
+    ghost try_from_gives = { IsOfNumber };
+
+    // The policy of a number, 1 to 5.
+    fn try_from(number: u32) -> Result<Policy, Refusal> {
+        match number {
+            1 => Ok(Policy::Lru),
+            2 => Ok(Policy::Clock),
+            3 => Ok(Policy::Segmented),
+            4 => Ok(Policy::TwoQ),
+            5 => Ok(Policy::Arc),
+            _ => Err(Refusal::NoSuchPolicy),
         }
-        return first < capacity;
     }
-    first == 0
 }
 
-// The second setting is 1 to C for 2Q, 0 for any other.
-fn second_fits(policy: u32, capacity: u32, second: u32) -> bool
-    ensures { result ≡ second_fits policy capacity second }
-{
-    if policy == TWO_Q {
-        if second < 1 {
-            return false;
+impl Policy {
+    // Policies 3 and 4, whose first setting is a size.
+    #[tactic(auto, unfolding(meaning::specs::Layout::is_split))]
+    fn is_split(self) -> bool
+        ensures { result ≡ is_split (number_of self) }
+    {
+        matches!(self, Policy::Segmented | Policy::TwoQ)
+    }
+
+    // The least capacity of a policy.
+    #[tactic(auto, unfolding(meaning::specs::Layout::least_capacity))]
+    fn least_capacity(self) -> u32
+        ensures { result ≡ least_capacity (number_of self) }
+    {
+        if self.is_split() { 2 } else { 1 }
+    }
+
+    // The first setting is 1 to C-1 for policies 3 and 4, 0 for any other.
+    #[tactic(auto, unfolding(meaning::specs::Layout::first_fits))]
+    fn first_fits(self, capacity: u32, first: u32) -> bool
+        ensures { result ≡ first_fits (number_of self) capacity first }
+    {
+        if self.is_split() {
+            1 <= first && first < capacity
+        } else {
+            first == 0
         }
-        return second <= capacity;
     }
-    second == 0
+
+    // The second setting is 1 to C for 2Q, 0 for any other.
+    #[tactic(auto, unfolding(meaning::specs::Layout::second_fits))]
+    fn second_fits(self, capacity: u32, second: u32) -> bool
+        ensures { result ≡ second_fits (number_of self) capacity second }
+    {
+        match self {
+            Policy::TwoQ => 1 <= second && second <= capacity,
+            _ => second == 0,
+        }
+    }
 }
 
-// The refusal, 1 to 3, that form gives to settings, or 0.
-pub fn settings_refusal(policy: u32, capacity: u32, first: u32, second: u32) -> u32
-    ensures { result ≡ settings_refusal policy capacity first second }
+// The policy of settings that form accepts, or its refusal, 1 to 3.
+#[tactic(auto, unfolding(crate::specs::Policies::judged, meaning::specs::Calls::refusal_of, meaning::specs::Layout::settings_refusal))]
+pub fn accepted(settings: Settings) -> Result<Policy, Refusal>
+    ensures { says number_of result ≡ judged (asked settings) }
 {
-    if policy < LRU {
-        return 1;
+    let policy = Policy::try_from(settings.policy)?;
+    let capacity = settings.capacity;
+    if capacity < policy.least_capacity() || LARGEST < capacity {
+        return Err(Refusal::CapacityOutside);
     }
-    if ARC < policy {
-        return 1;
+    if !policy.first_fits(capacity, settings.first) {
+        return Err(Refusal::SettingOutside);
     }
-    if capacity < least_capacity(policy) {
-        return 2;
+    if !policy.second_fits(capacity, settings.second) {
+        return Err(Refusal::SettingOutside);
     }
-    if LARGEST < capacity {
-        return 2;
-    }
-    if !first_fits(policy, capacity, first) {
-        return 3;
-    }
-    if !second_fits(policy, capacity, second) {
-        return 3;
-    }
-    0
+    Ok(policy)
 }
+
+// What follows goes by the number that words and callers hold, and not by a `Policy`: any number may stand there, and each clause speaks of all of them.
 
 // How many entries a directory of these settings has.
-pub fn entries_of(policy: u32, capacity: u32, second: u32) -> usize
-    ensures { result ≡ entries_of policy capacity second }
+#[tactic(auto, unfolding(meaning::specs::Layout::entries_of))]
+pub fn entries_of(settings: Settings) -> usize
+    ensures { result ≡ entries_of settings.policy settings.capacity settings.second }
 {
-    if policy == TWO_Q {
-        return capacity as usize + second as usize;
+    match Policy::try_from(settings.policy) {
+        Ok(Policy::TwoQ) => settings.capacity as usize + settings.second as usize,
+        Ok(Policy::Arc) => 2 * (settings.capacity as usize),
+        _ => settings.capacity as usize,
     }
-    if policy == ARC {
-        return 2 * (capacity as usize);
-    }
-    capacity as usize
 }
 
 // The index bits of n entries: the least number k, at most 10, with 2^k at least n.
 pub fn bits_of(n: usize) -> usize
     ensures { (result ≡ bits_of n) × (result ≤ 10) }
 {
-    let mut k: usize = 0;
-    let mut p: usize = 1;
-    while k < 10 {
-        if n <= p {
+    for k in 0..10 {
+        if n <= buckets_of(k) {
             return k;
         }
-        k += 1;
-        p = 2 * p;
     }
-    k
+    10
 }
 
 // How many buckets k index bits make: 2^k.
@@ -176,64 +183,56 @@ pub fn length_for(n: usize) -> usize
 }
 
 // How many lists a policy uses.
+#[tactic(auto, unfolding(meaning::specs::Layout::lists_of))]
 pub fn lists_of(policy: u32) -> u32
     ensures { result ≡ lists_of policy }
 {
-    if policy == SEGMENTED {
-        return 2;
+    match Policy::try_from(policy) {
+        Ok(Policy::Segmented) => 2,
+        Ok(Policy::TwoQ) => 3,
+        Ok(Policy::Arc) => 4,
+        _ => 1,
     }
-    if policy == TWO_Q {
-        return 3;
-    }
-    if policy == ARC {
-        return 4;
-    }
-    1
 }
 
 // Whether the lists of a policy have an order: all but CLOCK's.
 pub fn has_order(policy: u32) -> bool
     ensures { result ≡ not (is_clock policy) }
 {
-    policy != CLOCK
+    !matches!(Policy::try_from(policy), Ok(Policy::Clock))
 }
 
 // The largest mark of a policy: 1 for CLOCK, 0 for any other.
+#[tactic(auto, unfolding(meaning::specs::Layout::mark_limit))]
 pub fn mark_limit(policy: u32) -> u32
     ensures { result ≡ mark_limit policy }
 {
-    if has_order(policy) {
-        return 0;
-    }
-    1
+    if has_order(policy) { 0 } else { 1 }
 }
 
 // Whether a policy uses a list.
+#[tactic(auto, unfolding(meaning::specs::Layout::is_list))]
 pub fn is_list(policy: u32, list: u32) -> bool
     ensures { result ≡ is_list policy list }
 {
-    if list < 1 {
-        return false;
-    }
-    list <= lists_of(policy)
+    1 <= list && list <= lists_of(policy)
 }
 
 // Whether list j is of held pages.
+#[tactic(auto, unfolding(meaning::specs::Layout::is_held))]
 pub fn is_held(j: u32) -> bool
     ensures { result ≡ is_held j }
 {
-    if j == 1 {
-        return true;
-    }
-    j == 2
+    matches!(j, 1 | 2)
 }
 
 // The bucket of a page, of 2^k: the top k bits of (page x 2,654,435,769) mod 2^32, and 0 when k is 0.
+#[tactic(auto, unfolding(meaning::specs::Layout::bucket_of))]
 pub fn bucket_of(k: u32, page: u32) -> usize
     requires { k ≤ 32 }
     ensures { result ≡ bucket_of k page }
 {
-    let x = (page as u64) * 2654435769 % 4294967296;
+    let x = u64::from(page) * 2654435769 % 4294967296;
     if k == 0 {
         return 0;
     }
@@ -241,61 +240,40 @@ pub fn bucket_of(k: u32, page: u32) -> usize
 }
 
 // Word 6 is at most C (ARC), below C (CLOCK), 0 otherwise.
-pub fn word6_fits(policy: u32, capacity: u32, v: u32) -> bool
-    requires { capacity ≤ 512 }
-    ensures { result ≡ word6_fits policy capacity v }
+#[tactic(auto, unfolding(meaning::specs::Rules::word6_fits))]
+pub fn word6_fits(settings: Settings, v: u32) -> bool
+    requires { settings.capacity ≤ 512 }
+    ensures { result ≡ word6_fits settings.policy settings.capacity v }
 {
-    if policy == ARC {
-        return v <= UNIT * capacity;
+    match Policy::try_from(settings.policy) {
+        Ok(Policy::Arc) => v <= UNIT * settings.capacity,
+        Ok(Policy::Clock) => v < settings.capacity,
+        _ => v == 0,
     }
-    if policy == CLOCK {
-        return v < capacity;
-    }
-    v == 0
 }
 
 // Rule h for ARC, of the sizes of its four lists.
+#[tactic(auto, unfolding(meaning::specs::Rules::arc_sizes))]
 fn arc_sizes(c: u32, n1: u32, n2: u32, n3: u32, n4: u32) -> bool
     requires { (c ≤ 512) × (n1 ≤ 1024) × (n2 ≤ 1024) × (n3 ≤ 1024) × (n4 ≤ 1024) }
     ensures { result ≡ arc_sizes c n1 n2 n3 n4 }
 {
-    if c < n1 + n3 {
-        return false;
-    }
-    if 2 * c < n1 + n2 + n3 + n4 {
-        return false;
-    }
-    if n3 + n4 == 0 {
-        return true;
-    }
-    n1 + n2 == c
+    n1 + n3 <= c && n1 + n2 + n3 + n4 <= 2 * c && (n3 + n4 == 0 || n1 + n2 == c)
 }
 
 // Rule h, of the settings and the sizes of the lists.
-pub fn sizes_right(
-    policy: u32,
-    c: u32,
-    first: u32,
-    second: u32,
-    n1: u32,
-    n2: u32,
-    n3: u32,
-    n4: u32,
-) -> bool
-    requires { (c ≤ 512) × (n1 ≤ 1024) × (n2 ≤ 1024) × (n3 ≤ 1024) × (n4 ≤ 1024) }
-    ensures { result ≡ sizes_right policy c first second n1 n2 n3 n4 }
+#[tactic(auto, unfolding(meaning::specs::Rules::sizes_right))]
+pub fn sizes_right(settings: Settings, n1: u32, n2: u32, n3: u32, n4: u32) -> bool
+    requires { (settings.capacity ≤ 512) × (n1 ≤ 1024) × (n2 ≤ 1024) × (n3 ≤ 1024) × (n4 ≤ 1024) }
+    ensures { result ≡ sizes_right settings.policy settings.capacity settings.first settings.second n1 n2 n3 n4 }
 {
-    if c < n1 + n2 {
+    if settings.capacity < n1 + n2 {
         return false;
     }
-    if policy == SEGMENTED {
-        return n2 <= first;
+    match Policy::try_from(settings.policy) {
+        Ok(Policy::Segmented) => n2 <= settings.first,
+        Ok(Policy::TwoQ) => n3 <= settings.second,
+        Ok(Policy::Arc) => arc_sizes(settings.capacity, n1, n2, n3, n4),
+        _ => true,
     }
-    if policy == TWO_Q {
-        return n3 <= second;
-    }
-    if policy == ARC {
-        return arc_sizes(c, n1, n2, n3, n4);
-    }
-    true
 }

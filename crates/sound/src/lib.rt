@@ -1,49 +1,94 @@
 // The audit: which of the rules a to h of a sound directory is broken first.
 #![tactic(auto)]
 
-ghost use Rattle.std.specs.Prelude.{◌≡◌};
-ghost use Rattle.meaning.specs.Rules.{broken};
-ghost use Rattle.meaning.specs.Calls.{audited};
+ghost use Rattle.std.specs.Prelude.{◌≡◌, true, false, IfOk, IfErr};
+ghost use Rattle.meaning.specs.Rules.{broken, sound};
+ghost use Rattle.meaning.specs.Calls.{audited, gave, refused, on_page};
+ghost use Rattle.meaning.specs.Answers.{done_says};
+ghost use Rattle.sound.specs.Numbers.{number_or_0};
 
+use meaning::Refusal;
+use readers::Entries;
 use rule_d::rule_d;
 use rule_h::rule_h;
 use rules_abc::{rule_a, rule_b, rule_c};
 use rules_efg::{rule_e, rule_f, rule_g};
+use settings::NONE;
 
-// The first of the rules a to h that does not hold, 1 to 8, each judged only when the earlier ones hold; or 0.
-pub fn first_broken(words: &[u32]) -> u32
-    ensures { result ≡ broken words.now }
+// Document 01's rules a to h.
+#[derive(Clone, Copy, Debug, PartialEq, Eq)]
+pub enum Rule {
+    A,
+    B,
+    C,
+    D,
+    E,
+    F,
+    G,
+    H,
+}
+
+// The first of the rules a to h that does not hold, each judged only when the earlier ones hold; or none. Eight tests in their order: a list of functions would be a switch.
+#[tactic(auto, unfolding(meaning::specs::Rules::broken))]
+pub fn first_broken(words: &[u32]) -> Option<Rule>
+    ensures { number_or_0 result ≡ broken words.now }
 {
     if !rule_a(words) {
-        return 1;
+        return Some(Rule::A);
     }
-    if !rule_b(words) {
-        return 2;
+    let d = Entries { words };
+    if !rule_b(&d) {
+        return Some(Rule::B);
     }
-    if !rule_c(words) {
-        return 3;
+    if !rule_c(&d) {
+        return Some(Rule::C);
     }
-    if !rule_d(words) {
-        return 4;
+    if !rule_d(&d) {
+        return Some(Rule::D);
     }
-    if !rule_e(words) {
-        return 5;
+    if !rule_e(&d) {
+        return Some(Rule::E);
     }
-    if !rule_f(words) {
-        return 6;
+    if !rule_f(&d) {
+        return Some(Rule::F);
     }
-    if !rule_g(words) {
-        return 7;
+    if !rule_g(&d) {
+        return Some(Rule::G);
     }
-    if !rule_h(words) {
-        return 8;
+    if !rule_h(&d) {
+        return Some(Rule::H);
     }
-    0
+    None
 }
 
 // Whether the words are a sound directory.
 pub fn audit(words: &[u32]) -> bool
     ensures { result ≡ audited words.now }
 {
-    first_broken(words) == 0
+    first_broken(words).is_none()
+}
+
+// Refuses words that are not a sound directory: 5.
+#[tactic(auto, unfolding(meaning::specs::Calls::audited))]
+pub fn checked(words: &[u32]) -> Result<(), Refusal>
+    ensures ok { IfOk result (λ u. sound words.now ≡ true) }
+    ensures refused { IfErr result (λ e. (e ≡ Refusal.Unsound) × (sound words.now ≡ false)) }
+{
+    if audit(words) {
+        Ok(())
+    } else {
+        Err(Refusal::Unsound)
+    }
+}
+
+// Refuses what any call on words and a page refuses first: 5, and 6 for a page that is NONE.
+#[tactic(auto, unfolding(meaning::specs::Calls::on_page))]
+pub fn askable(words: &[u32], page: u32) -> Result<(), Refusal>
+    ensures { done_says result ≡ on_page words.now page (gave tt) refused }
+{
+    checked(words)?;
+    if page == NONE {
+        return Err(Refusal::PageIsNone);
+    }
+    Ok(())
 }

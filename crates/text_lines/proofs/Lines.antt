@@ -3,7 +3,8 @@ use Prim.Native.Nat.{ℕ, zero, suc, ◌+◌, ◌-◌, ◌*◌, ◌/◌, ◌%◌
 use mathlib.Core.Bool.{Bool, true, false, cond}
 use mathlib.Core.Path.{◌≡◌, refl, ◌∙◌}
 use mathlib.Core.List.{List, [], ◌∷◌, ◌++◌, append_assoc}
-use lib.ListN.{length, get_or, drop, drop_of_length-le}
+use lib.Pointwise.{pointwise}
+use lib.ListN.{length, get_or, take, drop, drop_of_length-le}
 use lib.Seq.{drop-cons}
 use lib.Dec.{ltb, eqb}
 use borrow.Author.Tests.{lt-ltb, le-ltb, eq-eqb, ne_eqb, ltb-true, ltb-false, eqb-false}
@@ -53,6 +54,12 @@ decimal_push a d h k =
     decimal_more (a * 10 + d) (omega arith) ∙ simp (q, r)
 
 -- ── A line ──
+
+-- A line begins with its key, as the library compares a front.
+pub line_is : (key s : List ℕ) → line key s ≡ cond (pointwise eqb (take (length key) s) key) (number (drop (length key) s)) wrong
+line_is [] s = refl
+line_is (k ∷ ks) [] = refl
+line_is (k ∷ ks) (b ∷ s) = split b k (λ e t. simp (t, line_is ks s)) (λ e t. simp t)
 
 scan_digit : (acc d : ℕ) (s : List ℕ) → 0 < acc → d < 10 → acc * 10 + d ≤ 4294967295 → scan acc ((48 + d) ∷ s) ≡ scan (acc * 10 + d) s
 scan_digit acc d s h k b =

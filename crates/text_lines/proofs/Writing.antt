@@ -1,14 +1,18 @@
 -- What is written: lengths, runs of stores, and a line behind the other.
 use Prim.Native.Nat.{ℕ, zero, suc, ◌+◌, ◌-◌, ◌*◌, ◌/◌, ◌%◌, ◌^◌, ◌≤◌, ◌<◌}
 use mathlib.Core.Path.{◌≡◌, refl, sym, ap, ◌∙◌}
-use mathlib.Core.List.{List, [], ◌∷◌, ◌++◌}
-use lib.ListN.{length, get_or, drop, set, length-append}
-use lib.Seq.{sets, set_comm}
+use mathlib.Core.List.{List, [], ◌∷◌, ◌++◌, append_assoc, append-nil}
+use lib.ListN.{length, drop, set, length-append}
+use lib.Seq.{sets}
+use borrow.Rule.Slice.PartMut.{put_mid, post_of}
 use native.Mathlib.Omega.{arith}
-use native.Mathlib.Nat.{pow-suc, add-zero, add-suc, suc-add}
+use native.Mathlib.Numerals.{add-one}
+use Rattle.std.proofs.lemmas.List.{drop-set, drop-drop}
+use native.Mathlib.Nat.{le_refl, pow-suc, add-zero, add-suc, suc-add}
+use Rattle.std.specs.Prelude.{Option, Some, None, IfSome, IfNone, unwrap_or}
 use Rattle.meaning.specs.Calls.{over}
 use Rattle.meaning.specs.Text.{decimal, line_of}
-use Rattle.text_lines.proofs.Lines.{by_lt, decimal_one, decimal_more, turn, done}
+use Rattle.text_lines.proofs.Lines.{by_lt, done, decimal_one, decimal_more}
 use lib.Seq.{sets-eq}
 use native.Mathlib.Nat.{zero-add}
 
@@ -35,6 +39,22 @@ short_by (suc k) n h =
 pub decimal_short : (n : ℕ) → n ≤ 4294967295 → length (decimal n) ≤ 10
 decimal_short n h = short_by 9 n (omega arith)
 
+ten_pos : (k : ℕ) → 0 < 10 ^ k
+ten_pos zero = omega arith
+ten_pos (suc k) = rw pow-suc (omega (arith, ten_pos k))
+
+log_long : (k n : ℕ) → 10 ^ k ≤ n → n < 10 * 10 ^ k → length (decimal n) ≡ k + 1
+log_long zero n l h = digits_one n (omega arith)
+log_long (suc k) n l h =
+    let l' : 10 ^ k * 10 ≤ n = rw pow-suc at l in
+    let h' : n < 10 * (10 ^ k * 10) = rw pow-suc at h in
+    omega (arith, digits_more n (omega (arith, ten_pos k)), log_long k (n / 10) (omega arith) (omega arith))
+
+-- The library's logarithm to base ten, 0 of 0, is one less than the length of the decimal.
+pub log_length : (n : ℕ) (r : Option ℕ) → IfNone r (n ≡ 0) → IfSome r (λ k. 10 ^ k ≤ n) → IfSome r (λ k. n < 10 * 10 ^ k) → unwrap_or r 0 + 1 ≡ length (decimal n)
+log_length n None z l h = omega (arith, digits_one n (omega arith))
+log_length n (Some k) z l h = sym (log_long k n l h)
+
 -- The length of a line.
 pub line_length : (key : List ℕ) (v : ℕ) → length (line_of key v) ≡ length key + length (decimal v) + 1
 unfolding line_of
@@ -51,30 +71,33 @@ sets_append : (l : List ℕ) (i : ℕ) (xs ys : List ℕ) → sets l i (xs ++ ys
 sets_append l i [] ys = simp add-zero
 sets_append l i (x ∷ xs) ys = sets_append (set l i x) (suc i) xs ys ∙ simp (add-suc, suc-add)
 
-sets_snoc : (l : List ℕ) (i : ℕ) (xs : List ℕ) (x : ℕ) → sets l i (xs ++ (x ∷ [])) ≡ sets (set l (i + length xs) x) i xs
-sets_snoc l i [] x = simp add-zero
-sets_snoc l i (y ∷ ys) x =
-    let e : suc i + length ys ≡ i + suc (length ys) = omega arith in
-    sets_snoc (set l i y) (suc i) ys x
-    ∙ rw e (ap (λ (k : List ℕ). sets k (suc i) ys) (set_comm l i (i + suc (length ys)) y x (omega arith)))
+-- A part of a list with other bytes in its place is a run of stores.
+pub part_put : (l : List ℕ) (at k : ℕ) {xs ys : List ℕ} → ys ≡ xs → length xs ≡ k → at + k ≤ length l → put_mid at k l ys ≡ sets l at xs
+part_put l at k {xs} e n h =
+    let post : post_of at k l ≡ drop (at + k) l = rw (← drop-drop k at l) refl in
+    rw (e, post) (sym (sets-eq xs l at (omega arith) ∙ rw (n, append_assoc)))
 
--- A turn of a loop that stores xs in order.
-pub sets_turn : (l : List ℕ) (at i : ℕ) (xs : List ℕ) → i < length xs → sets l (at + i) (drop i xs) ≡ sets (set l (at + i) (get_or xs i 0)) (at + (i + 1)) (drop (i + 1) xs)
-sets_turn l at i xs h = let e : at + (i + 1) ≡ suc (at + i) = omega arith in simp (turn xs i h, e)
+-- The last i digits of n, zeros in front where it has fewer, and s after them.
+abbrev pub padded : ℕ → ℕ → List ℕ → List ℕ
+padded zero n s = s
+padded (suc i) n s = padded i (n / 10) ((48 + n % 10) ∷ s)
 
--- Nothing is left to store.
-pub sets_done : (l : List ℕ) (at i : ℕ) (xs : List ℕ) → length xs ≤ i → sets l at (drop i xs) ≡ l
-sets_done l at i xs h = simp (done xs i h)
+padded_below : (k n : ℕ) (s : List ℕ) → n < k → padded (length (decimal n)) n s ≡ decimal n ++ s
+padded_below zero n s h = absurd (omega arith)
+padded_below (suc k) n s h =
+    by_lt n 10
+    (λ l e. let q : n % 10 ≡ n = omega arith in simp (decimal_one n l, q))
+    (λ l e. let q : length (decimal n) ≡ suc (length (decimal (n / 10))) = omega (arith, digits_more n l) in
+    ap (λ (m : ℕ). padded m n s) q ∙ padded_below k (n / 10) ((48 + n % 10) ∷ s) (omega arith) ∙ simp (decimal_more n l, append_assoc))
 
--- The last of n's i digits is stored before the others.
-pub sets_digit : (l : List ℕ) (at n i : ℕ) → 10 ≤ n → i ≡ length (decimal n) → sets l at (decimal n) ≡ sets (set l (at + (i - 1)) (48 + n % 10)) at (decimal (n / 10))
-sets_digit l at n i h q =
-    let e : i - 1 ≡ length (decimal (n / 10)) = omega (arith, digits_more n h) in
-    rw (e, decimal_more n h) (sets_snoc l at (decimal (n / 10)) (48 + n % 10))
+-- A digit is stored in front of those stored before.
+pub padded_turn : (out : List ℕ) (i n : ℕ) → 0 < i → i ≤ length out → padded (i - 1) (n / 10) (drop (i - 1) (set out (i - 1) (48 + n % 10))) ≡ padded i n (drop i out)
+padded_turn out zero n h k = absurd (omega arith)
+padded_turn out (suc j) n h k = let e : suc j - 1 ≡ j = omega arith in simp (e, drop-set, add-one)
 
--- The first digit is stored last.
-pub sets_last : (l : List ℕ) (at n : ℕ) → n < 10 → sets l at (decimal n) ≡ set l at (48 + n)
-sets_last l at n h = rw (decimal_one n h)
+-- As many as its decimal has are the decimal.
+pub padded_all : (out : List ℕ) (n : ℕ) → length out ≡ length (decimal n) → padded (length out) n (drop (length out) out) ≡ decimal n
+padded_all out n e = rw (done out (length out) (le_refl _), e, padded_below (suc n) n [] (omega arith)) (append-nil _)
 
 -- ── What the writer's functions leave ──
 

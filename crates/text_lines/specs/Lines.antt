@@ -1,10 +1,9 @@
 -- What a line found in a text says.
-use Rattle.std.specs.Prelude.{ℕ, List, drop}
+use Rattle.std.specs.Prelude.{ℕ, List, Option, Some, None}
+use Rattle.std.specs.Borrow.{Bor}
 use Rattle.meaning.specs.Text.{Took, wrong, right}
-use Rattle.text_lines.specs.declared.Line.{Line}
-use Rattle.text_lines.specs.declared.Line.TheVariants as lines
 
--- What a `Line` found in a text says.
-abbrev pub took_of : List ℕ → Line → Took
-took_of text (lines.Value v next) = right v (drop next text)
-took_of text lines.Wrong = wrong
+-- The value of a line and what stands after it, or a wrong line.
+abbrev pub took_of : Option (ℕ × Bor (List ℕ)) → Took
+took_of (Some p) = right p.0 p.1.now
+took_of None = wrong

@@ -1,134 +1,77 @@
 // Lines of text: a key, a decimal from 0 to 4,294,967,295 and byte 10; read and written.
 #![tactic(auto)]
 
-ghost use Rattle.std.specs.Prelude.{◌≡◌, ◌+◌, ◌≤◌, length, drop};
+ghost use Rattle.std.specs.Prelude.{◌≡◌, ◌+◌, ◌≤◌, length};
 ghost use Rattle.std.proofs.lemmas.List.Edits.{sets};
-ghost use Rattle.meaning.specs.Text.{scan, number, line as Text·line, decimal, line_of};
+ghost use Rattle.meaning.specs.Text.{scan as Text·scan, number as Text·number, line as Text·line, decimal, line_of};
 ghost use Rattle.text_lines.specs.Lines.{took_of};
 
-// What reading a line finds: its value and where the next line starts.
-#[derive(Clone, Copy)]
-pub enum Line {
-    Value(u32, usize),
-    Wrong,
-}
-
-// Reads the rest of a line, after digits that make `first`.
-fn scan_at(text: &[u8], start: usize, first: u64) -> Line
-    requires { first ≤ 4294967295 }
-    ensures { took_of text.now result ≡ scan first (drop start text.now) }
+// Reads the rest of a line, after digits that make `first`: the value, and what stands after the line.
+fn scan(text: &[u8], first: u32) -> Option<(u32, &[u8])>
+    ensures { took_of result ≡ Text·scan first text.now }
 {
-    let mut at = start;
     let mut acc = first;
-    while at < text.len() {
-        let b = text[at];
-        at += 1;
-        if b == 10 {
-            return Line::Value(acc as u32, at);
-        }
-        if b < 48 {
-            return Line::Wrong;
-        }
-        if b > 57 {
-            return Line::Wrong;
-        }
-        let leading = acc == 0;
-        if leading {
-            return Line::Wrong;
-        }
-        acc = acc * 10 + (b as u64 - 48);
-        if acc > 4294967295 {
-            return Line::Wrong;
+    for (i, &b) in text.iter().enumerate() {
+        match b {
+            b'\n' => return Some((acc, &text[i + 1..])),
+            b'0'..=b'9' if acc != 0 => {
+                acc = acc.checked_mul(10)?.checked_add(u32::from(b - b'0'))?
+            }
+            _ => return None,
         }
     }
-    Line::Wrong
+    None
 }
 
-// Reads a decimal and byte 10.
-fn number_at(text: &[u8], at: usize) -> Line
-    ensures { took_of text.now result ≡ number (drop at text.now) }
+// Reads a decimal and byte 10. By hand, since the library takes a leading zero for right, which document 01 refuses.
+fn number(text: &[u8]) -> Option<(u32, &[u8])>
+    ensures { took_of result ≡ Text·number text.now }
 {
-    if text.len() <= at {
-        return Line::Wrong;
+    match text.split_first()? {
+        (&b @ b'0'..=b'9', rest) => scan(rest, u32::from(b - b'0')),
+        _ => None,
     }
-    let b = text[at];
-    if b < 48 {
-        return Line::Wrong;
-    }
-    if b > 57 {
-        return Line::Wrong;
-    }
-    scan_at(text, at + 1, b as u64 - 48)
 }
 
-// Reads a line: the key, a decimal and byte 10.
-pub fn line_at(text: &[u8], start: usize, key: &[u8]) -> Line
-    ensures { took_of text.now result ≡ Text·line key.now (drop start text.now) }
+// Reads a line: the key, a decimal and byte 10. Gives the value, and what stands after the line.
+#[tactic(auto, using(crate::proofs::Lines::line_is))]
+pub fn line<'a>(text: &'a [u8], key: &[u8]) -> Option<(u32, &'a [u8])>
+    ensures { took_of result ≡ Text·line key.now text.now }
 {
-    let mut at = start;
-    let mut i = 0;
-    while i < key.len() {
-        if text.len() <= at {
-            return Line::Wrong;
-        }
-        if text[at] != key[i] {
-            return Line::Wrong;
-        }
-        at += 1;
-        i += 1;
-    }
-    number_at(text, at)
+    number(text.strip_prefix(key)?)
 }
 
 // Counts the digits of v.
+#[tactic(auto, using(crate::proofs::Writing::log_length, crate::proofs::Writing::decimal_short))]
 pub fn digits(v: u32) -> usize
     ensures { (result ≡ length (decimal v)) × (result ≤ 10) }
 {
-    let mut k: usize = 1;
-    let mut rest = v;
-    while rest >= 10 {
-        rest /= 10;
-        k += 1;
-    }
-    k
+    v.checked_ilog10().unwrap_or(0) as usize + 1
 }
 
-// Writes bytes from `start` on.
-fn put_bytes(out: &mut [u8], start: usize, bytes: &[u8])
-    requires { start + length bytes.now ≤ length out.old }
-    ensures { out.new ≡ sets out.old start bytes.now }
+// Writes the decimal of v into the whole of `out`, the last digit first.
+#[tactic(auto, using(crate::proofs::Writing::padded_all, crate::proofs::Writing::padded_turn))]
+fn put_decimal(out: &mut [u8], v: u32)
+    requires { length out.old ≡ length (decimal v) }
+    ensures { out.new ≡ decimal v }
 {
-    let mut i = 0;
-    while i < bytes.len() {
-        out[start + i] = bytes[i];
-        i += 1;
-    }
-}
-
-// Writes a decimal at `at`, the last digit first, and gives where it ends.
-fn put_decimal(out: &mut [u8], at: usize, v: u32) -> usize
-    requires { at + length (decimal v) ≤ length out.old }
-    ensures { (out.new ≡ sets out.old at (decimal v)) × (result ≡ at + length (decimal v)) }
-{
-    let k = digits(v);
-    let mut i = k;
     let mut rest = v;
-    while rest >= 10 {
-        i -= 1;
-        out[at + i] = (48 + rest % 10) as u8;
+    for i in (0..out.len()).rev() {
+        out[i] = b'0' + (rest % 10) as u8;
         rest /= 10;
     }
-    out[at] = (48 + rest) as u8;
-    at + k
 }
 
-// Writes a line at `at`, and gives where it ends.
+// Writes a line at `at`, and gives where it ends: a place and no rest of the buffer, since the clause speaks of the whole of `out`.
+#[tactic(auto, using(crate::proofs::Writing::line_length))]
 pub fn put_line(out: &mut [u8], at: usize, key: &[u8], v: u32) -> usize
     requires { at + length (line_of key.now v) ≤ length out.old }
     ensures { (out.new ≡ sets out.old at (line_of key.now v)) × (result ≡ at + length (line_of key.now v)) }
 {
-    put_bytes(out, at, key);
-    let e = put_decimal(out, at + key.len(), v);
-    out[e] = 10;
+    let a = at + key.len();
+    let e = a + digits(v);
+    out[at..a].copy_from_slice(key);
+    put_decimal(&mut out[a..e], v);
+    out[e] = b'\n';
     e + 1
 }

@@ -6,17 +6,17 @@ use mathlib.Core.List.{List, [], ◌∷◌}
 use lib.ListN.{length, get_or, take, length-append}
 use lib.Seq.{take_at}
 use native.Mathlib.Omega.{arith}
+use Rattle.std.specs.Prelude.{Result, Ok}
+use Rattle.meaning.specs.Layout.{four}
 use Rattle.meaning.specs.Calls.{Refusal, plain, Said, refused, gave, over}
 use Rattle.meaning.specs.Text.{line_of, page_lines, head_lines, text_of, page_key, policy_key, capacity_key, first_key, second_key, count_key, line, bad_head, head, header, first_wrong, Contents, wrong_line, read_text, on_text, read}
-use Rattle.meaning.specs.declared.ReadText.{ReadText}
-use Rattle.meaning.specs.declared.ReadText.TheVariants as reads
-use Rattle.meaning.specs.declared.Written.{Written}
-use Rattle.meaning.specs.declared.Written.TheVariants as writes
+use Rattle.meaning.specs.declared.Accepted.{Accepted as Taken}
+use Rattle.meaning.specs.declared.Refusal.{Refusal as Refusing}
 use Rattle.trace_text.specs.Promises.{ReadAs, WrittenAs}
 use Rattle.text_lines.proofs.Lines.{by_lt, by_took, line_complete, line_sound}
 use Rattle.trace_text.proofs.Lines.{Words, words_cons, pages_sound, pages_complete, Settings, head_1, head_2, head_3, head_4, head_5, head_6, header_complete, keys, lines_then, key_after, NoLine, no_line, is_wrong_lem, Stops}
 use Rattle.text_lines.proofs.Writing.{sets_front}
-use Rattle.trace_text.proofs.Reading.{holding, read_long, read_bad, read_many, read_full, read_wrong, read_all}
+use Rattle.trace_text.proofs.Reading.{accepting, holding, read_long, read_bad, read_many, read_full, read_wrong, read_all}
 use Rattle.trace_text.proofs.Writing.{refuses_many, refuses_short, sends}
 use Rattle.meaning.proofs.Injective.{no_second, not_given, read_settles, write_settles}
 
@@ -220,11 +220,11 @@ wrong_exactly text room l = (
 -- ── What is written is what is read ──
 
 -- no second answer of `write`
-once : {p c f g : ℕ} {trace before : List ℕ} {r r' : Written} {after after' : List ℕ} → WrittenAs p c f g trace before r after → WrittenAs p c f g trace before r' after' → (r ≡ r') × (after ≡ after')
+once : {p c f g : ℕ} {trace before : List ℕ} {r r' : Result ℕ Refusing} {after after' : List ℕ} → WrittenAs (four p c f g) trace before r after → WrittenAs (four p c f g) trace before r' after' → (r ≡ r') × (after ≡ after')
 once x y = no_second write_settles (x.answer, x.memory) (y.answer, y.memory)
 
 -- what a length that was given tells
-pub sent : {p c f g n : ℕ} {trace buffer text : List ℕ} → WrittenAs p c f g trace buffer (writes.Length n) text → (n ≡ length (text_of p c f g trace)) × (text ≡ over (text_of p c f g trace) buffer)
+pub sent : {p c f g n : ℕ} {trace buffer text : List ℕ} → WrittenAs (four p c f g) trace buffer (Ok n) text → (n ≡ length (text_of p c f g trace)) × (text ≡ over (text_of p c f g trace) buffer)
 sent {p} {c} {f} {g} {n} {trace} {buffer} w =
     by_lt 65535 (length trace)
     (λ h _. let q = (once w (refuses_many p c f g trace buffer h)).0 in let z : ◌≡◌ {A = ℕ} 0 1 = cc in absurd (omega arith))
@@ -233,11 +233,11 @@ sent {p} {c} {f} {g} {n} {trace} {buffer} w =
     (λ h _. let q = once w (sends p c f g trace buffer few refl h refl) in (cc q.0, q.1 ∙ sets_front buffer (text_of p c f g trace) h)))
 
 -- Where `write` gave a length within the limit, `read` of the bytes written, with room, accepts the same settings and stores the same trace.
-pub written_read : {p c f g n : ℕ} {trace buffer text back after : List ℕ} {r : ReadText} → WrittenAs p c f g trace buffer (writes.Length n) text → Settings p c f g → Words trace
-    → n ≤ 65535 → length trace ≤ length back → ReadAs (take n text) back r after → (r ≡ reads.Accepted p c f g (length trace)) × (after ≡ over trace back)
+pub written_read : {p c f g n : ℕ} {trace buffer text back after : List ℕ} {r : Result Taken Refusing} → WrittenAs (four p c f g) trace buffer (Ok n) text → Settings p c f g → Words trace
+    → n ≤ 65535 → length trace ≤ length back → ReadAs (take n text) back r after → (r ≡ accepting p c f g (length trace)) × (after ≡ over trace back)
 unfolding over read
 written_read {p} {c} {f} {g} {n} {trace} {buffer} {text} {back} {after} {r} w settings words short fits x =
     let q = sent w in
     let t : take n text ≡ text_of p c f g trace = ap (take n) q.1 ∙ take_at (text_of p c f g trace) _ n (sym q.0) in
     let e = roomy (take n text) (length back) p c f g trace t (omega (arith, ap length t, q.0)) settings words fits in
-    (read_settles r (reads.Accepted p c f g (length trace)) (x.answer ∙ ap (λ (a : Said Contents). (on_text a back).said) e), x.memory ∙ ap (λ (a : Said Contents). (on_text a back).left) e)
+    (read_settles r (accepting p c f g (length trace)) (x.answer ∙ ap (λ (a : Said Contents). (on_text a back).said) e), x.memory ∙ ap (λ (a : Said Contents). (on_text a back).left) e)

@@ -1,19 +1,19 @@
 -- 2Q's step, from its parts.
 use Prim.Native.Nat.{ℕ, ◌≤◌, ◌<◌}
 use mathlib.Core.Path.{◌≡◌, sym, ap, ◌∙◌, subst}
-use mathlib.Core.Bool.{Bool, true, false, not}
+use mathlib.Core.Bool.{Bool, true, false}
 use mathlib.Core.List.{List}
 use native.Mathlib.Omega.{arith}
 use lib.Dec.{ltb}
-use borrow.Author.Tests.{eq-eqb, ne_eqb, le-ltb, not-true, not-false}
+use borrow.Author.Tests.{le-ltb}
 use Rattle.meaning.specs.declared.Answer.{Answer}
 use Rattle.meaning.specs.declared.Answer.TheVariants.{Hit}
 use Rattle.index.specs.declared.Found.{Found}
-use Rattle.index.specs.declared.Found.TheVariants.{At, Nothing}
+use Rattle.std.specs.Prelude.{Option, Some, None}
 use Rattle.meaning.specs.Base.{one_if}
 use Rattle.meaning.specs.Neighbours.{NONE}
 use Rattle.meaning.specs.Layout.{cell_at, list_col, slot_col}
-use Rattle.meaning.specs.Mem.{Mem, word, full, size, back, list_on, first_in, second_in, second_of}
+use Rattle.meaning.specs.Mem.{Mem, word, full, size, back, first_in, second_in, second_of}
 use Rattle.meaning.specs.Room.{Room, as_it_is, put_out, put_out_to, hit_at}
 use Rattle.meaning.specs.TwoQ.{trimmed, trimmed_room, make_room, two_q}
 use Rattle.invariants.specs.Places.{top, Repr, Ready, Turns, Says, Any}
@@ -21,7 +21,6 @@ use Rattle.invariants.specs.Assumed.{TwoQ}
 use Rattle.theorems.specs.Short.{short_room}
 use Rattle.theorems.specs.Sizes.{Resized}
 use Rattle.theorems.specs.Goes.{Out}
-use Rattle.theorems.proofs.Rooms.{list_none}
 use Rattle.theorems.proofs.Counts.{list_cases}
 use Rattle.theorems.proofs.Going.{not3}
 use Rattle.theorems.proofs.Short.{short_returns}
@@ -29,10 +28,10 @@ use Rattle.theorems.proofs.TwoQ.{am_back, room_cases, room_made}
 use Rattle.lists.specs.Asked.{OnList}
 use Rattle.lists.specs.Asked as asked
 use Rattle.lists.specs.Told.{Gives, GivesOf, Answers}
-use Rattle.rooms.specs.declared.Freed.{Freed}
+use Rattle.rooms.specs.declared.freed.Freed.{Freed}
 use Rattle.rooms.specs.Rooms.{Ends, Serves, Clears, Frees, asking, filling, entering, returning, hit_front, back_out, back_to, back_gone, Lined, HasBack, Then}
-use Rattle.rooms.proofs.Rooming.{frees_as, serves_as, says_hit}
-use Rattle.rooms.proofs.Spaces.{lined, out_lined, out_ghost, space_made, is_over, not_over, Hits, found_list, hits, found_nothing}
+use Rattle.rooms.proofs.Rooming.{ready_as, frees_as, serves_as, says_hit}
+use Rattle.rooms.proofs.Spaces.{lined, out_lined, out_ghost, space_made, is_over, not_over, Hits, found_list, hits, found_nothing, found_off}
 
 -- ── A1out is trimmed ──
 
@@ -81,34 +80,30 @@ module _ (m : Mem) (T : TwoQ m) where
 
 module _ {ws : List ℕ} {b : Bool} (s : Says ws (Gives full b)) where
   -- fewer than C are held
-  pub plain_none : {ws' : List ℕ} {f : Freed} → not b ≡ true → Frees ws ws' Any as_it_is f → Frees ws ws' TwoQ short_room f
+  pub plain_none : {ws' : List ℕ} {f : Freed} → b ≡ false → Frees ws ws' Any as_it_is f → Frees ws ws' TwoQ short_room f
   unfolding short_room
-  plain_none z F = frees_as F (λ m R T. (tt, simp (sym (s.of m R).is ∙ not-true b z)))
+  plain_none z F = frees_as F (λ m R T. (tt, simp (sym (s.of m R).is ∙ z)))
 
   module _ {kin n : ℕ} (ek : kin ≡ first_in ws) (sn : Says ws (GivesOf size 1 n)) where
     first : kin < n → (m : Mem) → Repr ws m → TwoQ m → HasBack 1 m
     first h m R T = record { lined = lined T.proper; some = (is_over 4 (omega arith) sn ek h m R).1 }
 
-    -- A1in is over Kin, so it has a back
-    pub plain_first : kin < n → Ready ws TwoQ → Ready ws (HasBack 1)
-    plain_first h o = record { mem = o.mem; repr = o.repr; meets = first h o.mem o.repr o.meets }
-
-    -- which goes to A1out
-    pub plain_to : {ws' : List ℕ} {f : Freed} → not b ≡ false → kin < n → Frees ws ws' (HasBack 1) (back_to 1 3) f → Frees ws ws' TwoQ short_room f
+    -- A1in is over Kin, so its back goes to A1out
+    pub plain_to : {ws' : List ℕ} {f : Freed} → b ≡ true → kin < n → Frees ws ws' (HasBack 1) (back_to 1 3) f → Frees ws ws' TwoQ short_room f
     unfolding short_room back_to
-    plain_to z h F = frees_as F (λ m R T. (first h m R T, simp (sym (s.of m R).is ∙ not-false b z, (is_over 4 (omega arith) sn ek h m R).0)))
+    plain_to z h F = frees_as F (λ m R T. (first h m R T, simp (sym (s.of m R).is ∙ z, (is_over 4 (omega arith) sn ek h m R).0)))
 
-    second : not b ≡ false → n ≤ kin → (m : Mem) → Repr ws m → TwoQ m → HasBack 2 m
-    second z h m R T = record { lined = lined T.proper; some = am_back m T (sym (s.of m R).is ∙ not-false b z) (omega (arith, ek ∙ R.holds.at (top 4) (omega arith), (sn.of m R).is)) }
+    second : b ≡ true → n ≤ kin → (m : Mem) → Repr ws m → TwoQ m → HasBack 2 m
+    second z h m R T = record { lined = lined T.proper; some = am_back m T (sym (s.of m R).is ∙ z) (omega (arith, ek ∙ R.holds.at (top 4) (omega arith), (sn.of m R).is)) }
 
     -- A1in is not over Kin, so Am has a back
-    pub plain_second : not b ≡ false → n ≤ kin → Ready ws TwoQ → Ready ws (HasBack 2)
-    plain_second z h o = record { mem = o.mem; repr = o.repr; meets = second z h o.mem o.repr o.meets }
+    pub plain_second : b ≡ true → n ≤ kin → Ready ws TwoQ → Ready ws (HasBack 2)
+    plain_second z h = ready_as (second z h)
 
     -- which is removed
-    pub plain_out : {ws' : List ℕ} {f : Freed} → not b ≡ false → n ≤ kin → Frees ws ws' (HasBack 2) (back_out 2) f → Frees ws ws' TwoQ short_room f
+    pub plain_out : {ws' : List ℕ} {f : Freed} → b ≡ true → n ≤ kin → Frees ws ws' (HasBack 2) (back_out 2) f → Frees ws ws' TwoQ short_room f
     unfolding short_room back_out
-    plain_out z h F = frees_as F (λ m R T. (second z h m R T, simp (sym (s.of m R).is ∙ not-false b z, not_over 4 (omega arith) sn ek h m R)))
+    plain_out z h F = frees_as F (λ m R T. (second z h m R T, simp (sym (s.of m R).is ∙ z, not_over 4 (omega arith) sn ek h m R)))
 
 module _ {ws ws₁ : List ℕ} {f : Freed} (F : Frees ws ws₁ TwoQ short_room f) where
   -- after room is made A1out may be trimmed
@@ -129,52 +124,52 @@ module _ {ws ws₁ : List ℕ} {f : Freed} (F : Frees ws ws₁ TwoQ short_room f
 pub two_q_lined : (m : Mem) → TwoQ m → Lined m
 two_q_lined m T = lined T.proper
 
-module _ {ws : List ℕ} {p : ℕ} {f : Found} (hp : p < NONE) (a : Says ws (Answers p f)) where
+module _ {ws : List ℕ} {p : ℕ} {f : Option Found} (hp : p < NONE) (a : Says ws (Answers p f)) where
   -- a page on none of the lists
-  space : f ≡ Nothing → (m : Mem) → Repr ws m → TwoQ m → Then TwoQ make_room (asked.Admits p) m
+  space : f ≡ None → (m : Mem) → Repr ws m → TwoQ m → Then TwoQ make_room (asked.Admits p) m
   space z m R T = record { asks = T; leaves = space_made (room_made m T) p hp (found_nothing a z hp m R T.proper.seated.indexed).absent (λ L. omega (arith, L, T.all)) }
 
   -- room can be made for it
-  pub two_q_missing : f ≡ Nothing → Ready ws TwoQ → Ready ws (Then TwoQ make_room (asked.Admits p))
-  two_q_missing z o = record { mem = o.mem; repr = o.repr; meets = space z o.mem o.repr o.meets }
+  pub two_q_missing : f ≡ None → Ready ws TwoQ → Ready ws (Then TwoQ make_room (asked.Admits p))
+  two_q_missing z = ready_as (space z)
 
   -- and it is served
-  pub two_q_missed : {ws' : List ℕ} {r : Answer} → f ≡ Nothing → Serves ws ws' (Then TwoQ make_room (asked.Admits p)) (filling make_room (entering p 1)) r → Serves ws ws' TwoQ (asking two_q p) r
+  pub two_q_missed : {ws' : List ℕ} {r : Answer} → f ≡ None → Serves ws ws' (Then TwoQ make_room (asked.Admits p)) (filling make_room (entering p 1)) r → Serves ws ws' TwoQ (asking two_q p) r
   unfolding asking filling entering two_q
   two_q_missed z S = serves_as S (λ m R T.
-      let l = list_none m T.proper.seated.indexed p hp (found_nothing a z hp m R T.proper.seated.indexed).absent in
-      (space z m R T, simp (ne_eqb (list_on m p) 2 (λ y. omega (arith, y, l)), ne_eqb (list_on m p) 1 (λ y. omega (arith, y, l)), ne_eqb (list_on m p) 3 (λ y. omega (arith, y, l)))))
+      let l = found_off a z hp m R T.proper.seated.indexed in
+      (space z m R T, simp l))
 
   -- a page on list j
-  module _ {e b j : ℕ} (z : f ≡ At e b) (ej : j ≡ word ws (cell_at e list_col)) where
+  module _ {found : Found} {j : ℕ} (z : f ≡ Some found) (ej : j ≡ word ws (cell_at found.entry list_col)) where
     -- a page in Am is served
-    pub two_q_am : {ws' : List ℕ} {r : Answer} → j ≡ 2 → Serves ws ws' (OnList e) (hit_front e 2) r → Serves ws ws' TwoQ (asking two_q p) r
+    pub two_q_am : {ws' : List ℕ} {r : Answer} → j ≡ 2 → Serves ws ws' (OnList found.entry) (hit_front found.entry 2) r → Serves ws ws' TwoQ (asking two_q p) r
     unfolding asking hit_front two_q
-    two_q_am d S = serves_as S (λ m R T. let k = hits a z hp m R (lined T.proper) in (k.on, simp (k.entry, eq-eqb (list_on m p) 2 (k.list ∙ found_list a z ej m R ∙ d))))
+    two_q_am d S = serves_as S (λ m R T. let k = hits a z hp m R (lined T.proper) in (k.on, simp (k.entry, k.list ∙ found_list a z ej m R ∙ d)))
 
-    comes : j ≡ 3 → (m : Mem) → Repr ws m → TwoQ m → Then TwoQ short_room (OnList e) m
-    comes d m R T = record { asks = T; leaves = plain_ghost m T e (found_list a z ej m R ∙ d) }
+    comes : j ≡ 3 → (m : Mem) → Repr ws m → TwoQ m → Then TwoQ short_room (OnList found.entry) m
+    comes d m R T = record { asks = T; leaves = plain_ghost m T found.entry (found_list a z ej m R ∙ d) }
 
     -- room can be made for a page in A1out
-    pub two_q_ghost : j ≡ 3 → Ready ws TwoQ → Ready ws (Then TwoQ short_room (OnList e))
-    two_q_ghost d o = record { mem = o.mem; repr = o.repr; meets = comes d o.mem o.repr o.meets }
+    pub two_q_ghost : j ≡ 3 → Ready ws TwoQ → Ready ws (Then TwoQ short_room (OnList found.entry))
+    two_q_ghost d = ready_as (comes d)
 
     -- and it is served
-    pub two_q_back : {ws' : List ℕ} {r : Answer} → j ≡ 3 → Serves ws ws' (Then TwoQ short_room (OnList e)) (filling short_room (returning e 2)) r → Serves ws ws' TwoQ (asking two_q p) r
+    pub two_q_back : {ws' : List ℕ} {r : Answer} → j ≡ 3 → Serves ws ws' (Then TwoQ short_room (OnList found.entry)) (filling short_room (returning found.entry 2)) r → Serves ws ws' TwoQ (asking two_q p) r
     unfolding asking filling returning two_q
     two_q_back d S = serves_as S (λ m R T.
         let k = hits a z hp m R (lined T.proper) in let l = found_list a z ej m R ∙ d in
-        (comes d m R T, simp (k.entry, ne_eqb (list_on m p) 2 (λ y. omega (arith, y, k.list, l)), ne_eqb (list_on m p) 1 (λ y. omega (arith, y, k.list, l)), eq-eqb (list_on m p) 3 (k.list ∙ l)) (sym (short_returns m T e l))))
+        (comes d m R T, simp (k.entry, k.list ∙ l) (sym (short_returns m T found.entry l))))
 
-    still : (m : Mem) → TwoQ m → Hits p e m → m.lists e ≡ 1 → hit_at m e m ≡ asking two_q p m
+    still : (m : Mem) → TwoQ m → Hits p found.entry m → m.lists found.entry ≡ 1 → hit_at m found.entry m ≡ asking two_q p m
     unfolding asking two_q
-    still m T k l = simp (k.entry, ne_eqb (list_on m p) 2 (λ y. omega (arith, y, k.list, l)), eq-eqb (list_on m p) 1 (k.list ∙ l))
+    still m T k l = simp (k.entry, k.list ∙ l)
 
     -- on A1in, nothing moves
-    pub two_q_a1in : {s : ℕ} → (j ≡ 2 → ⊥) → (j ≡ 3 → ⊥) → s ≡ word ws (cell_at e slot_col) → Serves ws ws TwoQ (asking two_q p) (Hit s 0)
+    pub two_q_a1in : {s : ℕ} → (j ≡ 2 → ⊥) → (j ≡ 3 → ⊥) → s ≡ word ws (cell_at found.entry slot_col) → Serves ws ws TwoQ (asking two_q p) (Hit s 0)
     two_q_a1in {s} d2 d3 es = record {
       to = λ m R T.
           let k = hits a z hp m R (lined T.proper) in
-          let l : m.lists e ≡ 1 = list_cases m T.proper.seated.indexed T.proper.ordered e k.used (λ y _. y) (λ y _. absurd (d2 (sym (found_list a z ej m R) ∙ y))) (λ y _. absurd (d3 (sym (found_list a z ej m R) ∙ y))) (λ y h. absurd (omega (arith, h, T.unused))) in
+          let l : m.lists found.entry ≡ 1 = list_cases m T.proper.seated.indexed T.proper.ordered found.entry k.used (λ y _. y) (λ y _. absurd (d2 (sym (found_list a z ej m R) ∙ y))) (λ y _. absurd (d3 (sym (found_list a z ej m R) ∙ y))) (λ y h. absurd (omega (arith, h, T.unused))) in
           subst (Ends ws (Hit s 0)) (still m T k l) (record { repr = unfold hit_at in R; says = says_hit es m R k.on.within m });
     }

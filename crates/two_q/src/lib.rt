@@ -9,10 +9,10 @@ ghost use Rattle.theorems.specs.Short.{short_room};
 ghost use Rattle.lists.specs.Asked.{OnList, Admits};
 ghost use Rattle.rooms.specs.Rooms.{Serves, Frees, asking, filling, entering, returning, Lined, Then};
 
-use lists::Found;
 use meaning::Answer;
 use rooms::{
-    Freed, as_it_is, enters, full, hit_front, put_out_back, put_out_back_to, remove_back, returns,
+    Freed, MakesRoom, as_it_is, enter_after, full, hit_front, put_out_back, remove_back,
+    return_after,
 };
 use settings::{FIRST, LIST, SECOND, SLOT};
 
@@ -29,49 +29,44 @@ fn trim(words: &mut [u32])
     remove_back(words, 3);
 }
 
-// Nothing if fewer than C are held; else if A1in is over Kin, its back goes to the front of A1out; else the back of Am is removed.
-fn plain_room(words: &mut [u32]) -> Freed
-    requires { Ready words.old TwoQ }
-    ensures { Frees words.old words.new TwoQ short_room result }
-{
-    if !full(words) {
-        return as_it_is(words);
+// Room for a page of A1out, which comes to the front of Am; A1out is not over Kout then.
+#[derive(Clone, Copy)]
+struct GhostRoom;
+
+impl MakesRoom for GhostRoom {
+    ghost asks = { λ _. TwoQ };
+
+    ghost makes = { λ _. short_room };
+
+    // Nothing if fewer than C are held; else if A1in is over Kin, its back goes to the front of A1out; else the back of Am is removed.
+    fn make_room(self, words: &mut [u32]) -> Freed {
+        if !full(words) {
+            return as_it_is(words);
+        }
+        let kin = lists::word(words, FIRST);
+        let n = lists::size(words, 1);
+        if kin < n {
+            return put_out_back(words, 1, Some(3));
+        }
+        put_out_back(words, 2, None)
     }
-    let kin = lists::word(words, FIRST);
-    let n = lists::size(words, 1);
-    if kin < n {
-        return put_out_back_to(words, 1, 3);
+}
+
+// Room for a page on none of the lists.
+#[derive(Clone, Copy)]
+struct NewRoom;
+
+impl MakesRoom for NewRoom {
+    ghost asks = { λ _. TwoQ };
+
+    ghost makes = { λ _. make_room };
+
+    // Room as `GhostRoom` makes it, and A1out is trimmed.
+    fn make_room(self, words: &mut [u32]) -> Freed {
+        let f = GhostRoom.make_room(words);
+        trim(words);
+        f
     }
-    put_out_back(words, 2)
-}
-
-// Makes room, and trims A1out.
-fn make_room(words: &mut [u32]) -> Freed
-    requires { Ready words.old TwoQ }
-    ensures { Frees words.old words.new TwoQ make_room result }
-{
-    let f = plain_room(words);
-    trim(words);
-    f
-}
-
-// Makes room; the page enters at the front of A1in.
-fn enter_a1in(words: &mut [u32], page: u32) -> Answer
-    requires ready { Ready words.old (Then TwoQ make_room (Admits page)) }
-    requires page_bound { page < 4294967295 }
-    ensures { Serves words.old words.new (Then TwoQ make_room (Admits page)) (filling make_room (entering page 1)) result }
-{
-    let f = make_room(words);
-    enters(words, page, 1, f)
-}
-
-// Makes room for the page of entry e, which comes from A1out to the front of Am; A1out is not over Kout then.
-fn return_am(words: &mut [u32], e: u32) -> Answer
-    requires { Ready words.old (Then TwoQ short_room (OnList e)) }
-    ensures { Serves words.old words.new (Then TwoQ short_room (OnList e)) (filling short_room (returning e 2)) result }
-{
-    let f = plain_room(words);
-    returns(words, e, 2, f)
 }
 
 // In Am: to its front. In A1in: a hit, nothing moves. In A1out: make room, enter at the front of Am. Else: make room, enter at the front of A1in.
@@ -80,20 +75,16 @@ pub fn two_q_step(words: &mut [u32], page: u32) -> Answer
     requires page_bound { page < 4294967295 }
     ensures { Serves words.old words.new TwoQ (asking two_q page) result }
 {
-    let f = lists::find(words, page);
-    let Found::At(e, _) = f else {
-        return enter_a1in(words, page);
+    let Some(found) = lists::find(words, page) else {
+        return enter_after(NewRoom, words, page);
     };
-    let j = lists::cell(words, e, LIST);
-    if j == 2 {
-        return hit_front(words, e, 2);
-    }
-    if j == 3 {
-        return return_am(words, e);
-    }
-    let s = lists::cell(words, e, SLOT);
-    Answer::Hit {
-        slot: s,
-        cleared: 0,
+    let j = lists::cell(words, found.entry, LIST);
+    match j {
+        2 => hit_front(words, found.entry, 2),
+        3 => return_after(GhostRoom, words, found.entry),
+        _ => {
+            let slot = lists::cell(words, found.entry, SLOT);
+            Answer::Hit { slot, cleared: 0 }
+        }
     }
 }

@@ -1,32 +1,32 @@
-use Rattle.arc.proofs.OfArc.{arc_lined, arc_missing, arc_missed, arc_ghost, arc_b1_lem, arc_b2_lem, arc_hit}
-use Rattle.rooms.proofs.Spaces.{found_room, found_on}
+use Rattle.arc.proofs.OfArc.{arc_indexed, arc_lined, arc_ghost, arc_b1_lem, arc_b2_lem, arc_hit}
+use Rattle.rooms.proofs.Spaces.{found_room, found_on, missing, missed}
 use native.Mathlib.Omega.{arith}
 use borrow.Author.Rules.{rules}
 use Rattle.arc.proofs.arc_step.Goals as goal
 
 pub arc_new-requires : goal.arc_new-requires
-arc_new-requires c = record { ready = search (arc_missing, rules); page_bound = search rules }
+arc_new-requires c = search (missing, arc_indexed, rules)
 
 pub returns-in_default : goal.returns-in_default
-returns-in_default c = search (arc_missed, rules)
+returns-in_default c = search (missed, arc_indexed, rules)
 
 pub cell-j-requires : goal.cell-j-requires
 cell-j-requires c = (omega arith, search (found_room, rules))
 
-pub arc_b1-requires : goal.arc_b1-requires
-arc_b1-requires c = search (arc_ghost, rules)
+pub arc_ghost-requires : goal.arc_ghost-requires
+arc_ghost-requires c = search (arc_ghost, rules)
 
-pub returns-then-j-eq3 : goal.returns-then-j-eq3
-returns-then-j-eq3 c = search (arc_b1_lem, rules)
+pub returns-in-3 : goal.returns-in-3
+returns-in-3 c = search (arc_b1_lem, rules)
 
-pub arc_b2-requires : goal.arc_b2-requires
-arc_b2-requires c = search (arc_ghost, rules)
+pub arc_ghost-requires-in-4 : goal.arc_ghost-requires-in-4
+arc_ghost-requires-in-4 c = search (arc_ghost, rules)
 
-pub returns-then-j-eq4 : goal.returns-then-j-eq4
-returns-then-j-eq4 c = search (arc_b2_lem, rules)
+pub returns-in-4 : goal.returns-in-4
+returns-in-4 c = search (arc_b2_lem, rules)
 
-pub hit_front-requires : goal.hit_front-requires
-hit_front-requires c = record { ready = search (found_on, arc_lined, rules); le_j = search rules }
+pub hit_front-requires-clause-ready : goal.hit_front-requires-clause-ready
+hit_front-requires-clause-ready c = search (found_on, arc_lined, rules)
 
-pub returns : goal.returns
-returns c = search (arc_hit, rules)
+pub returns-in_default-j : goal.returns-in_default-j
+returns-in_default-j c = search (arc_hit, rules)

@@ -9,8 +9,8 @@ overflow_mul-c c = omega (arith, twice_fits c.word-c.ensures c.requires)
 pub returns-then-t-b : goal.returns-then-t-b
 returns-then-t-b c = search (shorten_none, rules)
 
-pub remove_back-requires : goal.remove_back-requires
-remove_back-requires c = record { ready = shorten_back c.word-c.ensures c.size.ensures.says c.size-2.ensures.says c.size-3.ensures.says c.size-4.ensures.says c.if-t-b.false c.requires; le_k = search rules }
+pub remove_back-requires-clause-ready : goal.remove_back-requires-clause-ready
+remove_back-requires-clause-ready c = shorten_back c.word-c.ensures c.size.ensures.says c.size-2.ensures.says c.size-3.ensures.says c.size-4.ensures.says c.if-t-b.false c.requires
 
 pub returns : goal.returns
 returns c = search (shorten_gone, rules)

@@ -1,17 +1,17 @@
-use Rattle.clock.proofs.OfClock.{clock_missing, clock_missed, clock_within, clock_hit}
-use Rattle.rooms.proofs.Spaces.{found_room}
+use Rattle.clock.proofs.OfClock.{clock_indexed, clock_within, clock_hit}
+use Rattle.rooms.proofs.Spaces.{found_room, missing, missed}
 use native.Mathlib.Omega.{arith}
 use borrow.Author.Rules.{rules}
 use Rattle.clock.proofs.clock_step.Goals as goal
 
 pub clock_miss-requires : goal.clock_miss-requires
-clock_miss-requires c = record { ready = search (clock_missing, rules); page_bound = search rules }
+clock_miss-requires c = search (missing, clock_indexed, rules)
 
 pub returns-in_default : goal.returns-in_default
-returns-in_default c = search (clock_missed, rules)
+returns-in_default c = search (missed, clock_indexed, rules)
 
-pub cell-s-requires : goal.cell-s-requires
-cell-s-requires c = (omega arith, search (found_room, rules))
+pub cell-slot-requires : goal.cell-slot-requires
+cell-slot-requires c = (omega arith, search (found_room, rules))
 
 pub set_mark-requires : goal.set_mark-requires
 set_mark-requires c = search (clock_within, rules)

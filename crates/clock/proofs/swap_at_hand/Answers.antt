@@ -7,7 +7,7 @@ pub put_out-f-requires : goal.put_out-f-requires
 put_out-f-requires c = search (hand_kept, rules)
 
 pub swap_in-requires : goal.swap_in-requires
-swap_in-requires c = record { ready = room_ready (hand_frees c.word-h.ensures c.put_out-f.ensures) c.requires.ready; page_bound = search rules }
+swap_in-requires c = room_ready (hand_frees c.word-h.ensures c.put_out-f.ensures) c.requires
 
 pub returns : goal.returns
 returns c = search (room_serves, hand_frees, rules)

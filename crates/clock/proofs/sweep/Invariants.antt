@@ -1,5 +1,4 @@
 -- What is left of the sweep comes to what the whole comes to.
-use Prim.Native.Nat.{◌-◌}
 use mathlib.Core.Path.{◌≡◌}
 use lib.ListN.{length}
 use Rattle.clock.proofs.OfClock.{Sweeping}
@@ -7,6 +6,3 @@ use Rattle.clock.proofs.sweep.Given as goal
 
 abbrev pub invariant-loop-n : goal.invariant-loop-n
 invariant-loop-n l = Sweeping l.initial.words l.words l.n × (length l.words ≡ length l.initial.words)
-
-abbrev pub decreases-loop-n : goal.decreases-loop-n
-decreases-loop-n l = l.c - l.n

@@ -1,13 +1,13 @@
--- `add_up` meets its contract. The invariant: the first i words are sums, and sum is the total of the first i. The measure is what is left.
-use Prim.Native.Nat.{◌≤◌, ◌-◌}
+-- `add_up` meets its contract. The invariant: the sums so far, and those of what is left from `sum` on, are those of all.
+use Prim.Native.Nat.{◌≤◌, ◌+◌}
 use mathlib.Core.Path.{◌≡◌}
-use lib.ListN.{length, take}
+use mathlib.Core.List.{◌++◌}
+use lib.ListN.{take, drop}
 use Rattle.curves.specs.Curve.{total, sums}
-use Rattle.curves.proofs.Lists.{over_to}
 use Rattle.curves.proofs.add_up.Given as goal
 
-abbrev pub invariant-loop-i : goal.invariant-loop-i
-invariant-loop-i l = (l.i ≤ length l.initial.s) × (length l.s ≡ length l.initial.s) × (l.s ≡ over_to l.i (sums 0 l.initial.s) l.initial.s) × (l.sum ≡ total (take l.i l.initial.s))
-
-abbrev pub decreases-loop-i : goal.decreases-loop-i
-decreases-loop-i l = length l.initial.s - l.i
+abbrev pub invariant-loop-x : goal.invariant-loop-x
+invariant-loop-x l = record {
+  room : l.sum + total (drop l.x-index l.s) ≤ 4294967295;
+  sums_of_all : take l.x-index l.s ++ sums l.sum (drop l.x-index l.s) ≡ sums 0 l.initial.s;
+}

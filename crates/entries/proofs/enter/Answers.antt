@@ -1,9 +1,10 @@
-use Rattle.entries.proofs.Filling.{room_ready, enter_turns}
+use Rattle.entries.proofs.Filling.{room_ready, fresh_off, enter_turns}
+use Rattle.cells.proofs.Composed.{ready_then}
 use borrow.Author.Rules.{rules}
 use Rattle.entries.proofs.enter.Goals as goal
 
-pub enter_at-requires : goal.enter_at-requires
-enter_at-requires c = record { ready = search (room_ready, rules); page_bound = search rules }
+pub push_front-requires-clause-ready : goal.push_front-requires-clause-ready
+push_front-requires-clause-ready c = ready_then c.occupy.ensures (λ m F o. o) (fresh_off _ _ _) (room_ready c.lowest_free-e.ensures c.requires.ready)
 
 pub returns : goal.returns
 returns c = search (enter_turns, rules)

@@ -1,31 +1,26 @@
-use mathlib.Core.Bool.{true, false}
-use mathlib.Core.Path.{sym, ◌∙◌}
-use Rattle.meaning.specs.Base.{one_if}
+use Prim.Native.Nat.{ℕ, ◌+◌, ◌*◌, ◌≤◌}
+use lib.ListN.{length}
+use Rattle.std.proofs.Common.{rules, tests}
+use Rattle.std.proofs.lemmas.Iterator.{serves_from_Range, YieldsList-from_range}
+use Rattle.std.proofs.lemmas.Iterator.Consumers.{count_from_yields_List, YieldsList-from_filter}
+use Rattle.meaning.specs.Layout.{is_held, cell_at, list_col}
+use Rattle.meaning.specs.Mem.{word}
 use Rattle.cells.proofs.Bounds.{entry_room, few_le}
-use Rattle.entries.proofs.Scans.{tally_start, tally_next, tally_over}
-use borrow.Author.Rules.{rules}
+use Rattle.entries.proofs.Scans.{held_count}
 use native.Mathlib.Omega.{arith}
 use Rattle.entries.proofs.held.Goals as goal
-use Rattle.entries.proofs.held.Goals.{then-is_held, else-is_held}
 
-pub loop-i-init : goal.loop-i-init
-loop-i-init c = (search (tally_start, rules), omega arith, omega arith)
+pub count-requires-clause-can : goal.count-requires-clause-can
+count-requires-clause-can c =
+    rw (c.filter.ensures.source, c.filter.ensures.closure)
+    (tt, tt, serves_from_Range (λ x q k. search (rules, tests)) (λ x g h. let room : 16 + 8 * x + 8 ≤ length c.args.words.now = entry_room c.requires c.word-n.ensures h in search rules))
 
-pub cell-j-requires : goal.cell-j-requires
-cell-j-requires c = (omega arith, search (entry_room, rules))
+pub returns-clause-says : goal.returns-clause-says
+returns-clause-says c =
+    let at = λ (i : ℕ). is_held (word c.args.words.now (cell_at i list_col)) in
+    held_count c.word-n.ensures
+    (count_from_yields_List c.filter.result c.count.result c.count.ensures.ran
+    (YieldsList-from_filter _ at (YieldsList-from_range 0 c.word-n.result c.word-n.result c.filter.ensures.source (omega arith)) c.filter.ensures.closure (λ x b q k. search (rules, tests))))
 
-pub overflow_add-k : goal.overflow_add-k
-overflow_add-k c = omega (arith, few_le)
-
-pub loop-i-preserved : goal.loop-i-preserved
-unfolding one_if
-loop-i-preserved c =
-    let b = c.is_held.ensures in
-    let next = tally_next c.loop-i.invariant.0 c.word-n.ensures (omega arith) c.cell-j.ensures in
-    elim c.if-is_held.branch [
-      | then-is_held w ↦ (next true (sym w.if-is_held.true ∙ b) (omega arith), omega arith, omega arith)
-      | else-is_held w ↦ (next false (sym w.if-is_held.false ∙ b) (omega arith), omega arith, omega arith)
-    ]
-
-pub returns : goal.returns
-returns c = record { says = search (tally_over, rules); upper_bound = omega (arith, few_le) }
+pub returns-clause-upper_bound : goal.returns-clause-upper_bound
+returns-clause-upper_bound c = let within = rw c.filter.ensures.source at c.count.ensures.bound in omega (arith, few_le)

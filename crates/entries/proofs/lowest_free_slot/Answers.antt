@@ -1,16 +1,17 @@
-use Rattle.entries.proofs.Scans.{passed_start, slot_hit, slot_next, slot_over}
-use borrow.Author.Rules.{rules}
+use Prim.Native.Nat.{ℕ}
+use mathlib.Core.Path.{refl}
+use mathlib.Core.Bool.{Bool, true, false}
+use Rattle.std.proofs.Common.{rules, tests}
+use Rattle.std.proofs.lemmas.Iterator.{first_from_find, YieldsList-from_range}
+use Rattle.meaning.specs.Mem.{taken}
+use Rattle.invariants.specs.Places.{Says}
+use Rattle.cells.specs.Told.{GivesOf}
+use Rattle.entries.proofs.Scans.{least_found, slot_least}
 use native.Mathlib.Omega.{arith}
 use Rattle.entries.proofs.lowest_free_slot.Goals as goal
 
-pub loop-s-init : goal.loop-s-init
-loop-s-init c = (search (passed_start, rules), omega arith)
-
-pub returns-then-not-taken : goal.returns-then-not-taken
-returns-then-not-taken c = slot_hit c.loop-s.invariant.0 c.word-c.ensures (omega arith) c.taken.ensures (c.if-not-taken.true)
-
-pub loop-s-preserved : goal.loop-s-preserved
-loop-s-preserved c = (slot_next c.loop-s.invariant.0 c.taken.ensures (c.if-not-taken.false), omega arith)
-
 pub returns : goal.returns
-returns c = search (slot_over, rules)
+returns c =
+    let says = λ (b : Bool) (x : ℕ). Says c.args.words.now (GivesOf taken x b) in
+    let r = first_from_find _ _ c.find.result (says false) (says true) c.find.ensures.ran (YieldsList-from_range 0 c.word-c.result c.word-c.result refl (omega arith)) (λ x q k. search (rules, tests)) (λ x q k. search (rules, tests)) in
+    slot_least c.word-c.ensures (rw c.unwrap_or.ensures (least_found c.find.result r))

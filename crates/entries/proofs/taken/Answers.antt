@@ -1,19 +1,20 @@
+use Prim.Native.Nat.{ℕ, ◌+◌, ◌*◌, ◌≤◌}
+use lib.ListN.{length}
+use mathlib.Core.Path.{◌≡◌, refl}
+use mathlib.Core.Bool.{true, false}
+use Rattle.std.proofs.Common.{rules, tests}
+use Rattle.std.proofs.lemmas.Iterator.{cases_from_any, serves_from_Range, YieldsList-from_range}
 use Rattle.cells.proofs.Bounds.{entry_room}
-use Rattle.entries.proofs.Scans.{passed_start, sits_hit, sits_next, sits_over}
-use borrow.Author.Rules.{rules}
+use Rattle.entries.specs.Written.{sits_at}
+use Rattle.entries.proofs.Scans.{sits_some}
+use native.Mathlib.Omega.{arith}
 use Rattle.entries.proofs.taken.Goals as goal
 
-pub loop-i-init : goal.loop-i-init
-loop-i-init c = search (passed_start, rules)
-
-pub sits-requires : goal.sits-requires
-sits-requires c = search (entry_room, rules)
-
-pub returns-then-sits : goal.returns-then-sits
-returns-then-sits c = search (sits_hit, rules)
-
-pub loop-i-preserved : goal.loop-i-preserved
-loop-i-preserved c = search (sits_next, rules)
+pub any-requires-clause-callable : goal.any-requires-clause-callable
+any-requires-clause-callable c = serves_from_Range (λ x q k. search (rules, tests)) (λ x g h. let room : 16 + 8 * x + 8 ≤ length c.args.words.now = entry_room c.requires c.word-n.ensures h in search rules)
 
 pub returns : goal.returns
-returns c = search (sits_over, rules)
+returns c =
+    let at = λ (i : ℕ). sits_at c.args.words.now c.args.s i in
+    sits_some c.args.s c.any.result c.word-n.ensures
+    (cases_from_any _ _ c.any.result (λ i. at i ≡ true) (λ i. at i ≡ false) c.any.ensures.ran (YieldsList-from_range 0 c.word-n.result c.word-n.result refl (omega arith)) (λ x q k. search (rules, tests)) (λ x q k. search (rules, tests)))

@@ -1,11 +1,6 @@
 -- Every word from 7 to i is blank.
-use Prim.Native.Nat.{◌-◌}
-use lib.ListN.{length}
 use Rattle.fresh.proofs.Wiping.{Wiping}
 use Rattle.fresh.proofs.wipe.Given as goal
 
 abbrev pub invariant-loop-i : goal.invariant-loop-i
 invariant-loop-i l = Wiping l.initial.words l.n l.i l.words
-
-abbrev pub decreases-loop-i : goal.decreases-loop-i
-decreases-loop-i l = length l.words - l.i

@@ -1,11 +1,13 @@
--- The walk along the chain of the page: k entries were passed, a the last.
-use Prim.Native.Nat.{◌-◌}
-use Rattle.invariants.specs.Places.{Says}
-use Rattle.index.proofs.Walks.{Walk}
+-- No entry so far has the page, and before is the last of them.
+use mathlib.Core.Path.{◌≡◌}
+use Rattle.meaning.specs.Neighbours.{NONE}
+use Rattle.cells.specs.Trail.{Readable}
+use Rattle.cells.specs.Steps.{steps}
+use Rattle.index.specs.Told.{look_in}
+use Rattle.index.proofs.Walks.{page_at}
 use Rattle.index.proofs.find.Given as goal
 
-abbrev pub invariant-loop-k : goal.invariant-loop-k
-invariant-loop-k l = Says l.words (Walk l.page l.a l.i l.k)
-
-abbrev pub decreases-loop-k : goal.decreases-loop-k
-decreases-loop-k l = l.n - l.k
+abbrev pub invariant-loop-entry : goal.invariant-loop-entry
+invariant-loop-entry l =
+    (look_in (page_at l.words) NONE (steps l.initial.entry-iterator) l.page ≡ look_in (page_at l.words) l.before (steps l.entry-iterator) l.page)
+    × Readable l.words (steps l.entry-iterator)

@@ -1,13 +1,10 @@
--- The walk along list j: k entries were passed, and their pages written.
-use Prim.Native.Nat.{◌-◌, ◌≤◌}
+-- The pages of the entries so far were written, front first.
 use mathlib.Core.Path.{◌≡◌}
-use lib.ListN.{length}
-use Rattle.invariants.specs.Places.{Says}
-use Rattle.links.proofs.Copying.{Copying}
+use mathlib.Core.List.{map}
+use Rattle.meaning.specs.Layout.{cell_at, page_col}
+use Rattle.meaning.specs.Mem.{word}
+use Rattle.meaning.specs.Calls.{over}
 use Rattle.links.proofs.write_pages.Given as goal
 
 abbrev pub invariant-loop-k : goal.invariant-loop-k
-invariant-loop-k l = Says l.words (Copying l.j l.i l.k l.initial.res l.res) × (l.k ≤ l.n) × (length l.res ≡ length l.initial.res)
-
-abbrev pub decreases-loop-k : goal.decreases-loop-k
-decreases-loop-k l = l.n - l.k
+invariant-loop-k l = l.res ≡ over (map (λ x. word l.words (cell_at x.1 page_col)) l.yielded) l.initial.res

@@ -1,37 +1,26 @@
-use mathlib.Core.Path.{refl, ◌∙◌}
-use native.Mathlib.Omega.{arith}
-use borrow.Author.Rules.{rules}
-use lib.ListN.{get_or}
-use Rattle.replay.specs.Replays.{tallied}
+use Rattle.std.proofs.Common.{get_or, ◌∙◌, arith}
+use Rattle.meaning.specs.Answers.{reply_of, counts_of}
 use Rattle.traces.proofs.Pages.{not_none}
 use Rattle.policies.proofs.Requesting.{request_is}
 use Rattle.replay.proofs.Replaying.{next_page, all_asked}
 use Rattle.replay.proofs.run.Goals as goal
 
-pub loop-i-init : goal.loop-i-init
-loop-i-init c = let p = c.requires in (omega arith, p.0, refl, refl, omega arith)
+pub step-requires-clause-page_bound : goal.step-requires-clause-page_bound
+step-requires-clause-page_bound c = let i = c.loop-page.page-index in omega (arith, c.type_inv.trace i, not_none c.args.trace.now i c.requires.2 (omega arith))
 
-pub step-a-requires : goal.step-a-requires
-step-a-requires c = let l = c.loop-i in record { words_value = l.invariant.1; page_bound = omega (arith, c.type_inv.trace l.i, not_none c.args.trace.now l.i c.requires.2 (omega arith)) }
-
-pub counted-t-requires : goal.counted-t-requires
-counted-t-requires c = omega (arith, c.loop-i.invariant.4)
-
-pub loop-i-preserved : goal.loop-i-preserved
-loop-i-preserved c =
-    let l = c.loop-i in let t = c.args.trace.now in
-    let s = c.step-a.ensures in (
-      omega arith,
+pub loop-page-preserved : goal.loop-page-preserved
+loop-page-preserved c =
+    let l = c.loop-page in
+    let t = c.args.trace.now in
+    let i = l.page-index in
+    let s = c.step.ensures in (
       s.keeps,
-      search rules,
-      next_page t l.i (tallied l.t) (tallied c.counted-t.result) l.words c.step-a.new.words c.step-a.result (omega arith)
-          (request_is l.words (get_or t l.i 0) l.invariant.1 (omega (arith, c.type_inv.trace l.i, not_none t l.i c.requires.2 (omega arith))))
-          s.said s.left c.counted-t.ensures.0 ∙ l.invariant.3,
-      omega (arith, l.invariant.4, c.counted-t.ensures.1),
+      omega arith,
+      next_page t i (counts_of l.counts) (counts_of c.counted-counts.result) l.words c.step.new.words (reply_of c.step.result) (omega arith)
+          (request_is l.words (get_or t i 0) l.invariant.0 (omega (arith, c.type_inv.trace i, not_none t i c.requires.2 (omega arith))))
+          s.said s.left c.counted-counts.ensures.0 ∙ l.invariant.2,
+      omega (arith, l.invariant.3, c.counted-counts.ensures.1),
     )
 
 pub returns : goal.returns
-returns c = let l = c.loop-i in all_asked c.args.trace.now l.i (tallied l.t) l.words c.args.words.now (omega arith) l.invariant.3
-
-pub offset_bounds-trace-i : goal.offset_bounds-trace-i
-offset_bounds-trace-i c = omega (arith, c.requires.1)
+returns c = let l = c.loop-page in all_asked c.args.trace.now l.page-index (counts_of l.counts) l.words c.args.words.now (omega arith) l.invariant.2

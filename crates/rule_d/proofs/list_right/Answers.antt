@@ -1,53 +1,73 @@
-use Prim.Native.Nat.{ℕ}
+use Prim.Native.Nat.{ℕ, ◌+◌, ◌-◌, ◌≤◌, ◌<◌}
+use mathlib.Core.Bool.{Bool, true, false, false≢true}
 use mathlib.Core.List.{List}
-use mathlib.Core.Path.{◌≡◌, sym, ap, ◌∙◌}
+use mathlib.Core.Path.{◌≡◌, refl, sym, ap, ◌∙◌}
 use native.Mathlib.Omega.{arith}
-use borrow.Author.Tests.{eqb-true}
+use lib.Dec.{eqb}
+use borrow.Author.Tests.{eqb-true, eq-eqb, ne_eqb}
+use Rattle.meaning.specs.Neighbours.{NONE}
 use Rattle.meaning.specs.Layout.{tail_at}
-use Rattle.meaning.specs.Mem.{word}
+use Rattle.meaning.specs.Mem.{word, E}
+use Rattle.meaning.specs.Rules.{count, list_in, list_right, next_in, previous_in}
 use Rattle.invariants.proofs.Tests.{fails}
-use Rattle.invariants.proofs.Listed.{right_is, is_right, rest_start, over_long, here, here_back, rest_more, all_steps, all_last, rest_done}
+use Rattle.invariants.proofs.Listed.{Rest, right_is, is_right, over_long, here, here_back, rest_more, all_steps, all_last, rest_done}
 use Rattle.rule_d.proofs.list_right.Goals as goal
+
+-- two tests that pass together are one
+agree : (r s : Bool) → (r ≡ true → s ≡ true) → (s ≡ true → r ≡ true) → r ≡ s
+agree true s f g = sym (f refl)
+agree false s f g = fails s (λ h. absurd (false≢true (g h)))
+
+-- in a turn: so many entries were visited, and then e
+module _ {ws : List ℕ} {j e before v : ℕ} (r : Rest ws j e before (E ws + 1 - v)) (turn : v ≤ E ws) where
+  -- the walk is over, and the tail that was read is the entry visited last: the count decides
+  counted : e ≡ NONE → word ws (tail_at j) ≡ before → {k : ℕ} → k ≡ count ws j → eqb k v ≡ list_right ws j
+  counted end t {k} c = agree (eqb k v) (list_right ws j)
+      (λ h. is_right (rest_done r end t (omega (arith, eqb-true k v h))))
+      (λ h. eq-eqb k v (omega (arith, all_steps r.trail end, (right_is _ _ h).exact)))
+
+  -- and where it is not, the list is not right
+  untold : e ≡ NONE → {t : ℕ} → t ≡ word ws (tail_at j) → (t ≡ before → ⊥) → eqb t before ≡ list_right ws j
+  untold end {t} k u = ne_eqb t before u ∙ fails _ (λ h. u (k ∙ (right_is _ _ h).tail ∙ all_last r end))
+
+  -- one step more
+  onward : (e ≡ NONE → ⊥) → e < E ws → list_in ws e ≡ j → previous_in ws e ≡ before → Rest ws j (next_in ws e) e (E ws + 1 - (v + 1))
+  onward some b l p =
+      let k : E ws + 1 - (v + 1) ≡ E ws + 1 - v - 1 = omega arith in
+      rw k (rest_more r some (omega arith) b l p)
 
 -- the tail that was read is that of list j
 tail : (ws : List ℕ) (j : ℕ) {a t : ℕ} → t ≡ word ws a → a ≡ tail_at j → t ≡ word ws (tail_at j)
 tail ws j e k = e ∙ ap (word ws) k
 
-pub loop-e-init : goal.loop-e-init
-loop-e-init c =
-    let a = c.args in
-    rw (c.word-e.ensures, c.head_at.ensures, c.word-n.ensures) (rest_start a.words.now a.j)
+pub returns-then-word-before : goal.returns-then-word-before
+returns-then-word-before c =
+    counted c.loop-visited.invariant (omega arith) c.if-e.true (sym (tail c.args.d.now.words.now c.args.j c.word.ensures c.tail_at.ensures) ∙ c.if-word-before.true) c.count_on.ensures.0
 
-pub returns-then-left-eq0 : goal.returns-then-left-eq0
-returns-then-left-eq0 c = fails _ (λ h. over_long c.loop-e.invariant.trail c.if-left-eq0.true (right_is _ _ h).kept)
+pub returns-else-word-before : goal.returns-else-word-before
+returns-else-word-before c =
+    untold c.loop-visited.invariant (omega arith) c.if-e.true (tail c.args.d.now.words.now c.args.j c.word.ensures c.tail_at.ensures) c.if-word-before.false
 
 pub returns-then-n-e : goal.returns-then-n-e
 returns-then-n-e c =
-    let at = c.loop-e in
-    fails _ (λ h. omega (arith, (here at.invariant.trail c.loop-e-test.true (omega arith) (right_is _ _ h).kept).0))
+    let at = c.loop-visited in
+    fails _ (λ h. omega (arith, (here at.invariant.trail c.if-e.false (omega arith) (right_is _ _ h).kept).0))
 
 pub returns-then-cell-j : goal.returns-then-cell-j
 returns-then-cell-j c =
-    let at = c.loop-e in
-    fails _ (λ h. c.if-cell-j.true (c.cell.ensures ∙ eqb-true _ _ (here at.invariant.trail c.loop-e-test.true (omega arith) (right_is _ _ h).kept).1))
+    let at = c.loop-visited in
+    fails _ (λ h. c.if-cell-j.true (c.cell.ensures ∙ eqb-true _ _ (here at.invariant.trail c.if-e.false (omega arith) (right_is _ _ h).kept).1))
 
 pub returns-then-lost : goal.returns-then-lost
 returns-then-lost c =
-    let at = c.loop-e in
-    fails _ (λ h. c.if-lost.true (c.cell-in-loop-e.ensures ∙ here_back at.invariant c.loop-e-test.true (omega arith) (right_is _ _ h)))
+    let at = c.loop-visited in
+    fails _ (λ h. c.if-lost.true (c.cell-in-loop-visited.ensures ∙ here_back at.invariant c.if-e.false (omega arith) (right_is _ _ h)))
 
-pub loop-e-preserved : goal.loop-e-preserved
-loop-e-preserved c =
-    let at = c.loop-e in
+pub loop-visited-preserved : goal.loop-visited-preserved
+loop-visited-preserved c =
     rw c.cell-e.ensures
-    (rest_more at.invariant c.loop-e-test.true (omega arith) (omega arith)
-    (sym c.cell.ensures ∙ c.if-cell-j.false) (sym c.cell-in-loop-e.ensures ∙ c.if-lost.false))
+    (onward c.loop-visited.invariant (omega arith) c.if-e.false (omega arith) (sym c.cell.ensures ∙ c.if-cell-j.false) (sym c.cell-in-loop-visited.ensures ∙ c.if-lost.false))
 
-pub returns-then-word-before : goal.returns-then-word-before
-returns-then-word-before c = fails _ (λ h. c.if-word-before.true (tail c.args.words.now c.args.j c.word.ensures c.tail_at.ensures ∙ (right_is _ _ h).tail ∙ all_last c.loop-e.invariant c.loop-e-test.false))
-
-pub returns-then-count_on-n : goal.returns-then-count_on-n
-returns-then-count_on-n c = fails _ (λ h. c.if-count_on-n.true (omega (arith, all_steps c.loop-e.invariant.trail c.loop-e-test.false, (right_is _ _ h).exact, c.count_on.ensures.0)))
-
-pub returns : goal.returns
-returns c = sym (is_right (rest_done c.loop-e.invariant c.loop-e-test.false (sym (tail c.args.words.now c.args.j c.word.ensures c.tail_at.ensures) ∙ c.if-word-before.false) (omega (arith, c.count_on.ensures.0))))
+pub returns-else-lost : goal.returns-else-lost
+returns-else-lost c =
+    fails _ (λ h. over_long (onward c.loop-visited.invariant (omega arith) c.if-e.false (omega arith) (sym c.cell.ensures ∙ c.if-cell-j.false) (sym c.cell-in-loop-visited.ensures ∙ c.if-lost.false)).trail (omega arith) (right_is _ _ h).kept)

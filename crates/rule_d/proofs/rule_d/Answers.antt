@@ -2,12 +2,13 @@ use mathlib.Core.Path.{◌≡◌, sym, ap, ◌∙◌}
 use mathlib.Core.Bool.{Bool, true, false, not}
 use mathlib.Core.List.{List}
 use Prim.Native.Nat.{ℕ}
-use borrow.Author.Tests.{not-true, not-false}
-use Rattle.meaning.specs.Base.{every}
+use borrow.Author.Rules.{rules}
+use borrow.Author.Tests.{tests, not-true, not-false}
 use Rattle.meaning.specs.Layout.{is_clock}
-use Rattle.meaning.specs.Mem.{policy_in}
-use Rattle.meaning.specs.Rules.{rule_d, clock_right}
+use Rattle.meaning.specs.Mem.{E, policy_in}
+use Rattle.meaning.specs.Rules.{rule_d, end_none, clock_right, list_right}
 use Rattle.invariants.proofs.Tests.{joins}
+use Rattle.readers.proofs.Ranges.{every_from, every_below}
 use Rattle.rule_d.proofs.rule_d.Goals as goal
 
 -- a policy whose lists have no order is CLOCK
@@ -20,15 +21,21 @@ listed ws ep e h = not-true _ (ap (λ (p : ℕ). not (is_clock p)) (sym ep) ∙ 
 
 pub returns-then-has_order : goal.returns-then-has_order
 unfolding rule_d
-returns-then-has_order c = simp (listed c.args.words.now c.word.ensures c.has_order.ensures c.if-has_order.true) c.every.ensures
+returns-then-has_order c =
+    let ws = c.args.d.now.words.now in
+    simp (listed ws c.word.ensures c.has_order.ensures c.if-has_order.true) (every_from (list_right ws) c.all.ensures.ran (λ x b q k. search (rules, tests)) 1 5 4 (cc) (cc))
 
-pub returns-then-every : goal.returns-then-every
+pub returns-then-all : goal.returns-then-all
 unfolding rule_d
-returns-then-every c =
-    let ws = c.args.words.now in
+returns-then-all c =
+    let ws = c.args.d.now.words.now in
     simp (clock ws c.word.ensures c.has_order.ensures c.if-has_order.false)
-    (joins (sym c.every-2.ensures ∙ c.if-every.true) (c.every-then-every.ensures ∙ ap (λ (m : ℕ). every m (clock_right ws)) c.word-then-every.ensures))
+    (joins (sym (every_below (end_none ws) c.all-2.ensures.ran (λ x b q k. search (rules, tests)) 8 (cc)) ∙ c.if-all.true)
+    (every_below (clock_right ws) c.all-then-all.ensures.ran (λ x b q k. search (rules, tests)) (E ws) (cc)))
 
-pub returns : goal.returns
+pub returns-else-all : goal.returns-else-all
 unfolding rule_d
-returns c = simp (clock c.args.words.now c.word.ensures c.has_order.ensures c.if-has_order.false, sym c.every-2.ensures ∙ c.if-every.false)
+returns-else-all c =
+    let ws = c.args.d.now.words.now in
+    let ends = every_below (end_none ws) c.all-2.ensures.ran (λ x b q k. search (rules, tests)) 8 (cc) in
+    simp (clock ws c.word.ensures c.has_order.ensures c.if-has_order.false) (simp (sym ends ∙ c.if-all.false) (c.if-all.false))

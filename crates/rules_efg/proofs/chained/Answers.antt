@@ -1,43 +1,30 @@
-use mathlib.Core.Path.{sym}
+use mathlib.Core.Path.{refl, sym, ap, ◌∙◌}
+use mathlib.Core.List.{List}
+use Prim.Native.Nat.{ℕ}
 use native.Mathlib.Omega.{arith}
 use borrow.Author.Rules.{rules}
-use Rattle.meaning.specs.Layout.{bucket_at}
-use Rattle.meaning.specs.Mem.{word, E}
-use Rattle.meaning.specs.Rules.{bucket_in, of_bucket, bucket_from, chain_right, chained}
-use Rattle.readers.specs.Sized.{chain_in}
-use Rattle.invariants.proofs.Tests.{imp_skip, yes, no}
-use Rattle.invariants.proofs.Listed.{keeps_is, ahead_start, missing, found, nearer, ahead_below, ahead_more}
+use borrow.Author.Tests.{tests}
+use lib.Dec.{eqb}
+use Rattle.std.proofs.lemmas.Iterator.Consumers.{YieldsList-from_first}
+use Rattle.std.proofs.lemmas.Iterator.Search.{any_from_yields_List}
+use Rattle.meaning.specs.Neighbours.{has}
+use Rattle.meaning.specs.Rules.{chained}
+use Rattle.readers.proofs.Rules.{bucket_fits}
+use Rattle.invariants.proofs.Tests.{imp_is}
+use Rattle.cells.specs.Steps.{steps}
+use Rattle.rules_efg.proofs.Chains.{whole_chain, chain_readable, visits}
 use Rattle.rules_efg.proofs.chained.Goals as goal
 
-pub returns-then-not-is_used : goal.returns-then-not-is_used
-unfolding chained
-returns-then-not-is_used c = sym (imp_skip _ (no c.is_used.ensures c.if-not-is_used.true-raw))
+pub first_of-requires : goal.first_of-requires
+first_of-requires c = rw c.bucket_in.ensures (bucket_fits c.args.d.now.words.now c.args.d.now.sized c.args.i)
 
-pub loop-e-init : goal.loop-e-init
-unfolding chain_right
-loop-e-init c =
-    let a = c.args in
-    let ws = a.words.now in
-    let bk = bucket_in ws a.i in
-    rw (c.first_of-e.ensures, c.bucket_in.ensures)
-    (ahead_start (E ws) (of_bucket ws bk) (chain_in ws) (word ws (bucket_at (E ws) bk)) a.i (keeps_is (E ws) (of_bucket ws bk) (bucket_from ws bk) c.requires.2))
-
-pub returns-then-e : goal.returns-then-e
-unfolding chained
-returns-then-e c = simp (yes c.is_used.ensures c.if-not-is_used.false-raw, missing c.loop-e.invariant (omega arith))
-
-pub cell-e-requires : goal.cell-e-requires
-cell-e-requires c = omega (arith, ahead_below c.loop-e.invariant (λ q. omega arith))
-
-pub loop-e-smaller : goal.loop-e-smaller
-loop-e-smaller c = rw c.cell-e.ensures (nearer c.loop-e.invariant (λ q. omega arith))
-
-pub loop-e-preserved : goal.loop-e-preserved
-loop-e-preserved c = rw c.cell-e.ensures (ahead_more c.loop-e.invariant (λ q. omega arith) c.loop-e-test.true)
+pub invariant_of-any : goal.invariant_of-any
+invariant_of-any c = record { column = omega arith; readable = chain_readable c.args.d.now.words.now c.requires.right c.bucket_in.ensures c.first_of.ensures _ c.args.d.now.sized }
 
 pub returns : goal.returns
 unfolding chained
-returns c = simp (yes c.is_used.ensures c.if-not-is_used.false-raw, found c.loop-e.invariant (λ q. omega (arith, c.requires.0)) c.loop-e-test.false)
-
-pub first_of-e-requires : goal.first_of-e-requires
-first_of-e-requires c = (search rules, rw c.bucket_in.ensures c.requires.3)
+returns c =
+    let i = c.args.i in
+    imp_is (sym c.is_used.ensures ∙ c.if-not-is_used.false)
+    (any_from_yields_List (λ (e : ℕ). eqb i e) c.any.new.self _ c.any.result c.any.ensures.ran (YieldsList-from_first (λ x. x) steps _ refl) (λ x b q k. search (rules, tests))
+    ∙ visits i _ ∙ ap (λ (L : List ℕ). has L i) (whole_chain c.args.d.now.words.now c.requires.right c.bucket_in.ensures c.first_of.ensures (omega (arith, c.len.ensures))))

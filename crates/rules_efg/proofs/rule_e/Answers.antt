@@ -1,9 +1,12 @@
-use mathlib.Core.Path.{ap, ◌∙◌}
-use Prim.Native.Nat.{ℕ}
-use Rattle.meaning.specs.Base.{every}
+use borrow.Author.Rules.{rules}
+use borrow.Author.Tests.{tests}
+use Rattle.meaning.specs.Mem.{E}
 use Rattle.meaning.specs.Rules.{page_new, rule_e}
+use Rattle.readers.proofs.Ranges.{every_below}
 use Rattle.rules_efg.proofs.rule_e.Goals as goal
 
 pub returns : goal.returns
 unfolding rule_e
-returns c = c.every.ensures ∙ ap (λ (m : ℕ). every m (page_new c.args.words.now)) c.word.ensures
+returns c =
+    let ws = c.args.d.now.words.now in
+    every_below (page_new ws) c.all.ensures.ran (λ x b q k. search (rules, tests)) (E ws) (cc)

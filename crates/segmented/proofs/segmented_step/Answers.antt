@@ -4,8 +4,8 @@ use native.Mathlib.Omega.{arith}
 use borrow.Author.Rules.{rules}
 use Rattle.segmented.proofs.segmented_step.Goals as goal
 
-pub enter_lru-requires : goal.enter_lru-requires
-enter_lru-requires c = record { ready = search (segmented_missing, rules); page_bound = search rules }
+pub enter_after-requires-clause-ready : goal.enter_after-requires-clause-ready
+enter_after-requires-clause-ready c = search (segmented_missing, rules)
 
 pub returns-in_default : goal.returns-in_default
 returns-in_default c = search (segmented_missed, rules)
@@ -13,8 +13,8 @@ returns-in_default c = search (segmented_missed, rules)
 pub cell-j-requires : goal.cell-j-requires
 cell-j-requires c = (omega arith, search (found_room, rules))
 
-pub hit_front-requires : goal.hit_front-requires
-hit_front-requires c = record { ready = search (found_on, segmented_lined, rules); le_j = search rules }
+pub hit_front-requires-clause-ready : goal.hit_front-requires-clause-ready
+hit_front-requires-clause-ready c = search (found_on, segmented_lined, rules)
 
 pub returns-then-j-eq2 : goal.returns-then-j-eq2
 returns-then-j-eq2 c = search (segmented_q, rules)

@@ -1,20 +1,18 @@
+use Prim.Native.Nat.{◌+◌, ◌-◌}
+use mathlib.Core.Path.{◌≡◌, ap}
+use lib.ListN.{length}
+use lib.Seq.{sets, length-sets}
+use borrow.Rule.Slice.PartMut.{put_mid}
 use native.Mathlib.Omega.{arith}
-use Rattle.text_lines.proofs.Writing.{line_length, line_put}
+use Rattle.text_lines.proofs.Writing.{line_length, line_put, part_put}
 use Rattle.text_lines.proofs.put_line.Goals as goal
-
-pub put_bytes-requires : goal.put_bytes-requires
-put_bytes-requires c = let a = c.args in omega (arith, line_length a.key.now a.v)
-
-pub put_decimal-e-requires : goal.put_decimal-e-requires
-put_decimal-e-requires c = let a = c.args in omega (arith, line_length a.key.now a.v)
-
-pub bounds-out-e : goal.bounds-out-e
-bounds-out-e c = let a = c.args in omega (arith, line_length a.key.now a.v)
-
-pub overflow_add-result : goal.overflow_add-result
-overflow_add-result c = let a = c.args in omega (arith, line_length a.key.now a.v)
 
 pub returns : goal.returns
 returns c =
     let a = c.args in
-    line_put a.out.now a.at a.key.now a.v c.put_bytes.ensures c.put_decimal-e.ensures
+    let k = length a.key.now in
+    let room = line_length a.key.now a.v in
+    let first : put_mid a.at (a.at + k - a.at) a.out.now c.copy_from_slice.new.self ≡ sets a.out.now a.at a.key.now
+    = part_put a.out.now a.at (a.at + k - a.at) c.copy_from_slice.ensures.after (omega arith) (omega arith) in
+    line_put a.out.now a.at a.key.now a.v first
+    (part_put _ (a.at + k) _ c.put_decimal.ensures (omega arith) (omega (arith, ap length first, length-sets a.out.now a.at a.key.now)), omega arith)

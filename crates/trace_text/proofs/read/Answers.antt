@@ -1,21 +1,24 @@
+use mathlib.Core.Path.{refl, sym}
 use lib.ListN.{length}
-use Rattle.trace_text.proofs.Reading.{read_long, read_bad, met_head, refuses}
+use Rattle.meaning.proofs.Exits.{passed_on}
+use Rattle.trace_text.proofs.Reading.{read_long, refuses, refuses_head, accepts}
 use Rattle.trace_text.proofs.read.Goals as goal
 
 pub returns-then-text-gt65535 : goal.returns-then-text-gt65535
-returns-then-text-gt65535 c =
-    let a = c.args in let t = a.text.now in let d = a.trace.now in
-    refuses t d (read_long t (length d) c.if-text-gt65535.true)
+returns-then-text-gt65535 c = let a = c.args in refuses a.text.now a.trace.now (read_long a.text.now (length a.trace.now) c.if-text-gt65535.true)
 
-pub read_pages-requires : goal.read_pages-requires
-read_pages-requires c =
+pub returns-in_err-head : goal.returns-in_err-head
+returns-in_err-head c =
     let a = c.args in
-    (c.if-text-gt65535.false, met_head a.text.now c.head_at-h.ensures c.in-Right.is)
+    rw (passed_on _ c.from_residual.ensures.1) (refuses_head a.text.now a.trace.now c.if-text-gt65535.false refl (c.in_err-head.ensures (length a.trace.now)))
 
-pub returns-in-Wrong : goal.returns-in-Wrong
-returns-in-Wrong c =
-    let a = c.args in let t = a.text.now in let d = a.trace.now in
-    refuses t d (read_bad t (length d) c.if-text-gt65535.false (met_head t c.head_at-h.ensures c.in-Wrong.is))
+pub returns-in_err-read_pages : goal.returns-in_err-read_pages
+returns-in_err-read_pages c =
+    let a = c.args in let s = c.in_ok-head.head.settings in let e = c.in_err-read_pages.ensures in
+    rw (passed_on _ c.from_residual-in_err-read_pages.ensures.1, e.1)
+    (refuses_head a.text.now a.trace.now c.if-text-gt65535.false c.in_ok-head.ensures (e.0 s.policy s.capacity s.first s.second))
 
-pub returns-in-Right : goal.returns-in-Right
-returns-in-Right c = c.read_pages.ensures
+pub returns : goal.returns
+returns c =
+    let a = c.args in let e = c.in_ok-read_pages.ensures in
+    accepts a.text.now a.trace.now c.if-text-gt65535.false c.in_ok-head.ensures e.0 e.1 (sym e.2) e.3

@@ -1,26 +1,15 @@
-use mathlib.Core.Path.{◌≡◌, sym, ◌∙◌}
-use lib.ListN.{length}
+use mathlib.Core.Path.{◌≡◌, ap, ◌∙◌}
+use lib.ListN.{length, take}
+use lib.Seq.{sets, length-take-le}
 use native.Mathlib.Omega.{arith}
-use Rattle.trace_text.proofs.Reading.{read_many, read_full, read_wrong, refuses, accepts}
+use Rattle.meaning.specs.Text.{first_wrong, pages_in}
+use Rattle.trace_text.proofs.Lines.{pages_sound}
+use Rattle.trace_text.proofs.Reading.{stored}
 use Rattle.trace_text.proofs.read_pages.Goals as goal
-
-pub returns-then-count-gt65535 : goal.returns-then-count-gt65535
-returns-then-count-gt65535 c =
-    let a = c.args in let t = a.text.now in let d = a.trace.now in
-    refuses t d (read_many t (length d) c.requires.0 c.requires.1 c.if-count-gt65535.true)
-
-pub returns-then-trace-n : goal.returns-then-trace-n
-returns-then-trace-n c =
-    let a = c.args in let t = a.text.now in let d = a.trace.now in
-    refuses t d (read_full t (length d) c.requires.0 c.requires.1 c.if-count-gt65535.false (omega arith))
-
-pub returns-then-line-ne0 : goal.returns-then-line-ne0
-returns-then-line-ne0 c =
-    let a = c.args in let t = a.text.now in let d = a.trace.now in
-    refuses t d (read_wrong t (length d) c.requires.0 c.requires.1 c.if-count-gt65535.false c.if-trace-n.false c.first_wrong-line.result c.first_wrong-line.ensures (omega arith))
 
 pub returns : goal.returns
 returns c =
-    let a = c.args in let t = a.text.now in let d = a.trace.now in
-    let z : c.first_wrong-line.result ≡ 0 = omega arith in
-    accepts t d c.requires.0 c.requires.1 c.if-count-gt65535.false c.if-trace-n.false (sym z ∙ c.first_wrong-line.ensures) c.store.ensures
+    let a = c.args in let t = a.text.now in let d = a.trace.now in let n = a.count in
+    let z : first_wrong n 6 t ≡ 0 = omega arith in
+    let k : length (take n d) ≡ n = length-take-le n d (omega arith) in
+    (omega arith, omega arith, z, stored d n (pages_in n t) (pages_sound n 6 t (omega arith) z).1 (omega arith) (c.store.ensures ∙ ap (λ m. sets (take n d) 0 (pages_in m t)) k))

@@ -1,13 +1,9 @@
 use Rattle.two_q.proofs.OfTwoQ.{trim_none, trim_gone}
-use Rattle.rooms.proofs.Spaces.{over_back}
 use borrow.Author.Rules.{rules}
 use Rattle.two_q.proofs.trim.Goals as goal
 
 pub returns-then-n-kout : goal.returns-then-n-kout
 returns-then-n-kout c = search (trim_none, rules)
-
-pub remove_back-requires : goal.remove_back-requires
-remove_back-requires c = record { ready = search (over_back, rules); le_k = search rules }
 
 pub returns : goal.returns
 returns c = search (trim_gone, rules)

@@ -1,18 +1,10 @@
 -- The refusals in their order, and the length.
-use Rattle.form_look_report.proofs.Formed.{length_refuses, few, length_gives}
+use Rattle.meaning.proofs.Exits.{passed_on}
+use Rattle.form_look_report.proofs.Formed.{length_refuses, length_gives}
 use Rattle.form_look_report.proofs.forming.words_for.Goals as goal
 
-pub returns-then-number-ne0 : goal.returns-then-number-ne0
-returns-then-number-ne0 c =
-    let a = c.args in
-    length_refuses a.policy a.capacity a.first a.second c.settings_refusal-number.ensures c.if-number-ne0.true
-
-pub length_for-n-requires : goal.length_for-n-requires
-length_for-n-requires c =
-    let a = c.args in
-    few a.policy a.capacity a.first a.second c.settings_refusal-number.ensures c.if-number-ne0.false c.entries_of.ensures
+pub returns-in_err-entries_for : goal.returns-in_err-entries_for
+returns-in_err-entries_for c = rw (passed_on _ c.from_residual.ensures.1) (length_refuses _ c.in_err-entries_for.ensures.counted)
 
 pub returns : goal.returns
-returns c =
-    let a = c.args in
-    length_gives a.policy a.capacity a.first a.second c.settings_refusal-number.ensures c.if-number-ne0.false c.entries_of.ensures c.length_for-n.ensures.0
+returns c = length_gives _ c.in_ok-entries_for.ensures.counted c.length_for.ensures.0

@@ -1,25 +1,15 @@
 -- The refusals in their order, and what is seen.
-use native.Mathlib.Omega.{arith}
-use Rattle.sound.proofs.Entry.{is_sound, not_sound}
-use Rattle.form_look_report.proofs.Looked.{look_unsound, look_none, look_sees}
+use Rattle.std.proofs.Common.{arith}
+use Rattle.meaning.proofs.Exits.{passed_on}
+use Rattle.sound.proofs.Entry.{page_allowed}
+use Rattle.form_look_report.proofs.Looked.{look_refused, look_sees}
 use Rattle.form_look_report.proofs.looking.look.Goals as goal
 
-pub returns-then-not-audit : goal.returns-then-not-audit
-returns-then-not-audit c =
-    let a = c.args in
-    look_unsound a.words.now a.page (not_sound a.words.now c.audit.ensures c.if-not-audit.true-raw)
-
-pub returns-then-page-eq-NONE : goal.returns-then-page-eq-NONE
-returns-then-page-eq-NONE c =
-    let a = c.args in
-    look_none a.words.now a.page (is_sound a.words.now c.audit.ensures c.if-not-audit.false-raw) c.if-page-eq-NONE.true
+pub returns-in_err-askable : goal.returns-in_err-askable
+returns-in_err-askable c = rw (passed_on _ c.from_residual.ensures.1) (look_refused c.args.words.now c.args.page c.in_err-askable.ensures)
 
 pub seen-requires : goal.seen-requires
-seen-requires c =
-    let a = c.args in
-    (is_sound a.words.now c.audit.ensures c.if-not-audit.false-raw, omega arith)
+seen-requires c = let t = page_allowed _ c.args.page c.in_ok-askable.ensures in (t.0, omega arith)
 
 pub returns : goal.returns
-returns c =
-    let a = c.args in
-    look_sees a.words.now a.page (is_sound a.words.now c.audit.ensures c.if-not-audit.false-raw) c.if-page-eq-NONE.false c.seen.ensures
+returns c = look_sees c.args.words.now c.args.page c.in_ok-askable.ensures c.seen.ensures

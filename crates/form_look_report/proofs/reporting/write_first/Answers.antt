@@ -1,8 +1,6 @@
-use mathlib.Core.Path.{sym, ap, ◌∙◌}
-use Prim.Native.Nat.{ℕ, ◌+◌, ◌-◌}
-use native.Mathlib.Omega.{arith}
-use lib.ListN.{set, length-set}
-use lib.Seq.{sets}
+use Rattle.std.proofs.Common.{sym, ap, ◌∙◌, ℕ, ◌+◌, ◌-◌}
+use Rattle.std.proofs.Math.ListN.{set, length-set}
+use Rattle.std.proofs.lemmas.List.Edits.{sets}
 use Rattle.meaning.specs.Base.{series}
 use Rattle.meaning.specs.Rules.{page_in}
 use Rattle.form_look_report.proofs.Reported.{sets_next, sets_last, sets_over}
@@ -15,7 +13,6 @@ loop-i-preserved c =
           ∙ sym (sets_next (page_in a.words.now) c.loop-i.res c.loop-i.i a.n c.loop-i-test.true)
           ∙ c.loop-i.invariant.0,
       simp length-set c.loop-i.invariant.1,
-      omega arith,
     )
 
 pub returns : goal.returns

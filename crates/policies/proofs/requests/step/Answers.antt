@@ -1,36 +1,40 @@
-use Rattle.policies.proofs.Requesting.{sound_long, ready_lru, ready_clock, ready_segmented, ready_two_q, ready_arc, step_lru, step_clock, step_segmented, step_two_q, step_arc}
-use borrow.Author.Rules.{rules}
+-- The policy's step is the request's.
+use Rattle.std.proofs.Common.{◌≡◌, refl, ℕ, sym, ap, ◌∙◌}
+use Rattle.settings.specs.Policies.{number_of}
+use Rattle.settings.specs.declared.Policy.{Policy}
+use Rattle.policies.proofs.Requesting.{ready_lru, ready_clock, ready_segmented, ready_two_q, ready_arc, step_lru, step_clock, step_segmented, step_two_q, step_arc}
 use Rattle.policies.proofs.requests.step.Goals as goal
 
-pub word-policy-requires : goal.word-policy-requires
-word-policy-requires c = search (sound_long, rules)
+-- the policy that was met is the one that word 0 names
+met : {p q : Policy} {x : ℕ} → number_of p ≡ x → p ≡ q → x ≡ number_of q
+met e z = sym e ∙ ap number_of z
 
-pub lru_step-requires : goal.lru_step-requires
-lru_step-requires c = record { ready = search (ready_lru, rules); page_bound = search rules }
+pub lru_step-requires-clause-ready : goal.lru_step-requires-clause-ready
+lru_step-requires-clause-ready c = ready_lru _ c.requires.words_value refl (met c.policy_of.ensures c.in-Lru.is)
 
-pub returns-then-policy-eq-LRU : goal.returns-then-policy-eq-LRU
-returns-then-policy-eq-LRU c = search (step_lru, rules)
+pub returns-in-Lru : goal.returns-in-Lru
+returns-in-Lru c = step_lru _ c.requires.words_value refl c.requires.page_bound (met c.policy_of.ensures c.in-Lru.is) c.lru_step.ensures
 
-pub clock_step-requires : goal.clock_step-requires
-clock_step-requires c = record { ready = search (ready_clock, rules); page_bound = search rules }
+pub clock_step-requires-clause-ready : goal.clock_step-requires-clause-ready
+clock_step-requires-clause-ready c = ready_clock _ c.requires.words_value refl (met c.policy_of.ensures c.in-Clock.is)
 
-pub returns-then-policy-eq-CLOCK : goal.returns-then-policy-eq-CLOCK
-returns-then-policy-eq-CLOCK c = search (step_clock, rules)
+pub returns-in-Clock : goal.returns-in-Clock
+returns-in-Clock c = step_clock _ c.requires.words_value refl c.requires.page_bound (met c.policy_of.ensures c.in-Clock.is) c.clock_step.ensures
 
-pub segmented_step-requires : goal.segmented_step-requires
-segmented_step-requires c = record { ready = search (ready_segmented, rules); page_bound = search rules }
+pub segmented_step-requires-clause-ready : goal.segmented_step-requires-clause-ready
+segmented_step-requires-clause-ready c = ready_segmented _ c.requires.words_value refl (met c.policy_of.ensures c.in-Segmented.is)
 
-pub returns-then-policy-eq-SEGMENTED : goal.returns-then-policy-eq-SEGMENTED
-returns-then-policy-eq-SEGMENTED c = search (step_segmented, rules)
+pub returns-in-Segmented : goal.returns-in-Segmented
+returns-in-Segmented c = step_segmented _ c.requires.words_value refl c.requires.page_bound (met c.policy_of.ensures c.in-Segmented.is) c.segmented_step.ensures
 
-pub two_q_step-requires : goal.two_q_step-requires
-two_q_step-requires c = record { ready = search (ready_two_q, rules); page_bound = search rules }
+pub two_q_step-requires-clause-ready : goal.two_q_step-requires-clause-ready
+two_q_step-requires-clause-ready c = ready_two_q _ c.requires.words_value refl (met c.policy_of.ensures c.in-TwoQ.is)
 
-pub returns-then-policy-eq-TWO_Q : goal.returns-then-policy-eq-TWO_Q
-returns-then-policy-eq-TWO_Q c = search (step_two_q, rules)
+pub returns-in-TwoQ : goal.returns-in-TwoQ
+returns-in-TwoQ c = step_two_q _ c.requires.words_value refl c.requires.page_bound (met c.policy_of.ensures c.in-TwoQ.is) c.two_q_step.ensures
 
-pub arc_step-requires : goal.arc_step-requires
-arc_step-requires c = record { ready = search (ready_arc, rules); page_bound = search rules }
+pub arc_step-requires-clause-ready : goal.arc_step-requires-clause-ready
+arc_step-requires-clause-ready c = ready_arc _ c.requires.words_value refl (met c.policy_of.ensures c.in-Arc.is)
 
-pub returns : goal.returns
-returns c = search (step_arc, rules)
+pub returns-in-Arc : goal.returns-in-Arc
+returns-in-Arc c = step_arc _ c.requires.words_value refl c.requires.page_bound (met c.policy_of.ensures c.in-Arc.is) c.arc_step.ensures

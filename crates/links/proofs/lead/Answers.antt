@@ -1,9 +1,0 @@
-use Rattle.links.proofs.Linking.{reaches}
-use borrow.Author.Rules.{rules}
-use Rattle.links.proofs.lead.Goals as goal
-
-pub put-requires : goal.put-requires
-put-requires c = search (reaches, rules)
-
-pub returns : goal.returns
-returns c = cc

@@ -1,0 +1,5 @@
+use Rattle.rooms.proofs.Rooming.{room_serves}
+use Rattle.rooms.proofs.enter_after.Goals as goal
+
+pub returns : goal.returns
+returns g c = room_serves _ c.make_room-f.ensures c.enters.ensures
