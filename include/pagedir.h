@@ -1,7 +1,7 @@
 /* The page directory: the public calls of the static library.
  *
- * Each function returns the number of its refusal, 0 for none, and a refusal leaves every lent word as it was, the
- * answer words too. PD_NONE stands where an answer has no value.
+ * Each function but pd_audit, which has no refusal, returns the number of its refusal, 0 for none, and a refusal leaves
+ * every lent word as it was, the answer words too. PD_NONE stands where an answer has no value.
  *
  * A lent stretch is live for the whole call, aligned as its type asks, initialised throughout (to any values: a call
  * may read every word that it is lent), and apart from every other stretch of the same call.

@@ -17,7 +17,7 @@ use Rattle.meaning.specs.Mem.{decode, policy_of}
 use Rattle.meaning.specs.Room.{Reply}
 use Rattle.meaning.specs.Rules.{sound}
 use Rattle.meaning.specs.Calls.{Refusal, plain, Said, refused, gave, Outcome, refuse, refusal_of, formed as form, words_for, answered, on_page, requested, slot_of, slot_for, Sight, looked, pages_on, reported, ran, replayed, both, curve_refusal, curved}
-use Rattle.meaning.specs.Text.{Contents, bad_head, head, Header, header, first_wrong, pages_in, on_pages, on_head, on_text, read_text, read, text_of, wrote}
+use Rattle.meaning.specs.Text.{Accepted, Contents, bad_head, head, Header, header, first_wrong, pages_in, on_pages, on_head, on_text, read_text, read, text_of, wrote}
 use Rattle.meaning.proofs.Injective.{not_given}
 use Rattle.form_look_report.specs.Forms.{FormedAs}
 use Rattle.form_look_report.specs.Reports.{ReportedAs}
@@ -256,3 +256,11 @@ pub pd_read_returns : (text t : List ℕ) {t' a a' : List ℕ} {r : ℕ} → Tol
 pd_read_returns text t x =
     let S = still_read text t in
     and_returns S (ap (λ (n : ℕ). n % 4294967296) x.told.number ∙ low (read text t).said S.numbered) x
+
+-- And what it returns is 0, both halves, exactly if the call gave its answer.
+pub pd_read_zero : (text t : List ℕ) {t' a a' : List ℕ} {r : ℕ} → ToldAnd number_and_line read_words (read text t) a r a' t' → (r ≡ 0) ↔ Gave (read text t).said
+pd_read_zero text t {r = r} x = go (read text t).said (still_read text t).numbered x.told.number
+  where
+    go : (s : Said Accepted) → Numbered s → r ≡ number_and_line s → (r ≡ 0) ↔ Gave s
+    go (refused q) h e = (λ z. absurd (omega (arith, h.0, e, z)), λ g. absurd g)
+    go (gave c) h e = (λ z. tt, λ g. e)

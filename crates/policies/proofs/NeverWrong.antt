@@ -19,7 +19,7 @@ use Rattle.meaning.specs.Mem.{words, decode, fresh, empty, settings_top, capacit
 use Rattle.meaning.specs.Room.{Reply}
 use Rattle.meaning.specs.Policies.{request}
 use Rattle.meaning.specs.Rules.{sound}
-use Rattle.meaning.specs.Calls.{plain, Said, gave, Outcome, refuse, refusal_of, formed as form, on_page, requested, Event, ask, happens, Ran, run, Sight, held_in, sight, looked}
+use Rattle.meaning.specs.Calls.{plain, Said, refused, gave, Outcome, refuse, refusal_of, formed as form, on_page, requested, Event, ask, happens, Ran, run, Sight, held_in, sight, looked}
 use Rattle.meaning.specs.Answers.{request_says, look_says}
 use Rattle.invariants.specs.Proper.{Sits}
 use Rattle.invariants.proofs.Back.{whole_sound}
@@ -84,6 +84,13 @@ module _ {s : Settings} {before ws : List ℕ} (x : FormedAs s before (Ok (tt {0
   unfolding happens fits
   calls_never_wrong {q} {a} {l} hq y =
       subst (RightSaid s.C (told ram_by ram ts) (ask q)) (sym y.answer) (event_right s (told ram_by ram ts) ws' stands (ask q) (le-leb q NONE hq))
+
+  -- A request for NONE is refused with 6 and changes nothing.
+  pub none_changes_nothing : {a : Result Answer Refusal} {l : List ℕ} → Requested ws' NONE a l → (request_says a ≡ refused (plain 6)) × (l ≡ ws')
+  unfolding requested on_page refuse
+  none_changes_nothing y =
+      let t : sound ws' ≡ true = ap sound stands.is ∙ whole_sound stands.mem stands.whole in
+      (y.answer ∙ simp t, y.memory ∙ simp t)
 
   -- `look` says Held with slot n exactly if the page is held there.
   pub looks_both_ways : {q : ℕ} {a : Result Looked Refusal} → q < NONE → LookedAs ws' q a → (n : ℕ) → (look_says a ≡ gave (held_in n)) ↔ Sits q n (decode ws')
