@@ -8,7 +8,7 @@ use native.Mathlib.Omega.{arith}
 use lib.Dec.{eqb, ltb}
 use borrow.Author.Tests.{eq-eqb, ne_eqb, lt-ltb, le-ltb, le-leb, lt-leb, leb-true}
 use Rattle.meaning.specs.declared.Answer.{Answer}
-use Rattle.index.specs.declared.Found.{Found}
+use Rattle.lists.specs.Told.{Found}
 use Rattle.std.specs.Prelude.{Option, Some}
 use Rattle.meaning.specs.Base.{one_if}
 use Rattle.meaning.specs.Neighbours.{NONE}
@@ -46,9 +46,9 @@ unfolding step_of
 step_one mine other h k = (sym (simp (le-leb other mine h)), omega arith)
 
 -- the other list by the page's own, if that is shorter
-pub step_more : (mine other : ℕ) → mine < other → other ≤ 1024 → (1 * other / mine ≡ step_of mine other) × (1 * other / mine ≤ 1024)
+pub step_more : (mine other : ℕ) → mine < other → other ≤ 1024 → (unit * other / mine ≡ step_of mine other) × (unit * other / mine ≤ 1024)
 unfolding step_of
-step_more mine other h k = (sym (simp (lt-leb other mine h)), omega (arith, div-le_self (1 * other) mine))
+step_more mine other h k = (sym (simp (lt-leb other mine h)), omega (arith, div-le_self (unit * other) mine))
 
 -- the target is small enough for a sum
 pub target_fits : {ws : List ℕ} {k p : ℕ} → p ≡ word6_in ws → Ready ws (NotEmpty k) → p ≤ 1024
@@ -56,12 +56,12 @@ target_fits e o = let A = o.meets.arc in omega (arith, e ∙ o.repr.holds.at (to
 
 module _ {ws ws' : List ℕ} {p b1 b2 d q : ℕ} (ep : p ≡ word6_in ws) (s1 : Says ws (GivesOf size 3 b1)) (s2 : Says ws (GivesOf size 4 b2)) (t : Turns ws ws' Any (with_word6 q)) where
   -- the code's new target is that of a page in B1
-  pub grow_turns : {c : ℕ} {g : Ghosts} → c ≡ capacity_in ws → g ≡ B1 → d ≡ step_of b1 b2 → q ≡ min (1 * c) (p + d) → Turns ws ws' (NotEmpty (list_of g)) (moved g)
+  pub grow_turns : {c : ℕ} {g : Ghosts} → c ≡ capacity_in ws → g ≡ B1 → d ≡ step_of b1 b2 → q ≡ min (unit * c) (p + d) → Turns ws ws' (NotEmpty (list_of g)) (moved g)
   unfolding grown
   grow_turns ec y ed eq = rw y (record {
     to = λ m R o.
         subst (λ (x : ℕ). Repr ws' (with_word6 x m))
-        (eq ∙ ap₂ (λ (x y : ℕ). min (1 * x) y) (ec ∙ R.holds.at (top 1) (omega arith)) (ap₂ (λ (x y : ℕ). x + y) (ep ∙ R.holds.at (top 6) (omega arith)) (ed ∙ ap₂ step_of (s1.of m R).is (s2.of m R).is)))
+        (eq ∙ ap₂ (λ (x y : ℕ). min (unit * x) y) (ec ∙ R.holds.at (top 1) (omega arith)) (ap₂ (λ (x y : ℕ). x + y) (ep ∙ R.holds.at (top 6) (omega arith)) (ed ∙ ap₂ step_of (s1.of m R).is (s2.of m R).is)))
         (t.to m R tt);
   })
 
@@ -87,21 +87,21 @@ module _ {ws : List ℕ} {p t1 : ℕ} (b : Bool) (ep : p ≡ word6_in ws) (s : S
   first_none z = record { of = λ m R. record { is = sym (simp (le-ltb 0 (size m 1) (omega (arith, target m R)))) } }
 
   -- T1 is over p
-  pub first_over : (t1 ≡ 0 → ⊥) → p < 1 * t1 → Says ws (Gives (from_first b) true)
+  pub first_over : (t1 ≡ 0 → ⊥) → p < unit * t1 → Says ws (Gives (from_first b) true)
   unfolding from_first from_t1
   first_over z h = record { of = λ m R. let k = target m R in record { is = sym (simp (lt-ltb 0 (size m 1) (omega (arith, k, z)), lt-ltb (target_of m) (unit * size m 1) (omega (arith, k)))) } }
 
   -- T1 may be p, and the page asked for is in B2
-  pub first_tie : (t1 ≡ 0 → ⊥) → 1 * t1 ≤ p → b ≡ true → Says ws (Gives (from_first b) (eqb (1 * t1) p))
+  pub first_tie : (t1 ≡ 0 → ⊥) → unit * t1 ≤ p → b ≡ true → Says ws (Gives (from_first b) (eqb (unit * t1) p))
   unfolding from_first from_t1
   first_tie z h y = record {
     of = λ m R.
         let k = target m R in
-        record { is = ap₂ (λ (x v : ℕ). eqb (1 * x) v) k.1 k.0 ∙ sym (simp (y, lt-ltb 0 (size m 1) (omega (arith, k, z)), le-ltb (target_of m) (unit * size m 1) (omega (arith, k)))) };
+        record { is = ap₂ (λ (x v : ℕ). eqb (unit * x) v) k.1 k.0 ∙ sym (simp (y, lt-ltb 0 (size m 1) (omega (arith, k, z)), le-ltb (target_of m) (unit * size m 1) (omega (arith, k)))) };
   }
 
   -- T1 is not over p, and the page asked for is not in B2
-  pub first_not : 1 * t1 ≤ p → b ≡ false → Says ws (Gives (from_first b) false)
+  pub first_not : unit * t1 ≤ p → b ≡ false → Says ws (Gives (from_first b) false)
   unfolding from_first from_t1
   first_not h y = record {
     of = λ m R.

@@ -10,7 +10,7 @@ use lib.ListN.{length}
 use borrow.Author.Tests.{eq-eqb, ne_eqb, leb-true, leb-false, not-true, not-false}
 use Rattle.meaning.specs.declared.Answer.{Answer}
 use Rattle.meaning.specs.declared.Answer.TheVariants.{Hit}
-use Rattle.index.specs.declared.Found.{Found}
+use Rattle.lists.specs.Told.{Found}
 use Rattle.std.specs.Prelude.{Option, Some}
 use Rattle.meaning.specs.Neighbours.{NONE}
 use Rattle.meaning.specs.Layout.{cell_at, mark_col, slot_col}

@@ -116,9 +116,6 @@ module _ (m : Mem) (L : Lru m) where
         seen : Sits p (lru m p).reply.slot m
         seen = lru_steps.known m p L hp (unfold hit_at in ap (λ (d : Done). d.reply.kind) is)
 
-        seen_on : m.lists seen.entry ≡ 1
-        seen_on = L.one seen.entry (λ z. unfold is_held in no_true (sym (ap is_held z) ∙ seen.held))
-
         page : m.pages e ≡ p
         page = ap m.pages (entry_is m L.proper.seated.indexed p hp seen.entry seen.page) ∙ seen.page
 

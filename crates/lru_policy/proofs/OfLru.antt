@@ -4,7 +4,7 @@ use mathlib.Core.Path.{◌≡◌, ◌∙◌}
 use mathlib.Core.List.{List}
 use native.Mathlib.Omega.{arith}
 use Rattle.meaning.specs.declared.Answer.{Answer}
-use Rattle.index.specs.declared.Found.{Found}
+use Rattle.lists.specs.Told.{Found}
 use Rattle.std.specs.Prelude.{Option, Some, None}
 use Rattle.meaning.specs.Neighbours.{NONE}
 use Rattle.meaning.specs.Mem.{Mem}

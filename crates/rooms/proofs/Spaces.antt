@@ -8,7 +8,7 @@ use lib.Dec.{ltb}
 use lib.ListN.{length}
 use borrow.Author.Tests.{lt-ltb, le-ltb, leb-true}
 use Rattle.meaning.specs.declared.Answer.{Answer}
-use Rattle.index.specs.declared.Found.{Found}
+use Rattle.lists.specs.Told.{Found}
 use Rattle.std.specs.Prelude.{Option, Some, None}
 use Rattle.meaning.specs.Neighbours.{NONE}
 use Rattle.meaning.specs.Layout.{is_held, cell_at, list_col}

@@ -8,7 +8,7 @@ use lib.Dec.{ltb}
 use borrow.Author.Tests.{le-ltb}
 use Rattle.meaning.specs.declared.Answer.{Answer}
 use Rattle.meaning.specs.declared.Answer.TheVariants.{Hit}
-use Rattle.index.specs.declared.Found.{Found}
+use Rattle.lists.specs.Told.{Found}
 use Rattle.std.specs.Prelude.{Option, Some, None}
 use Rattle.meaning.specs.Base.{one_if}
 use Rattle.meaning.specs.Neighbours.{NONE}
