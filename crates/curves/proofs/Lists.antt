@@ -35,6 +35,22 @@ total_turn s a i h = rw add-one (total_suc s a i h)
 pub sums_end : (s : List ℕ) (a i : ℕ) → length s ≤ i → take i s ++ sums a (drop i s) ≡ s
 sums_end s a i h = simp (take_all i s h, drop_of_length-le s h, append-nil)
 
+-- One place more gets what stood before it, p the first.
+shift_suc : (s : List ℕ) (p i : ℕ) → i < length s → set (take i (p ∷ s) ++ drop i s) i (get_or (p ∷ s) i 0) ≡ take (suc i) (p ∷ s) ++ drop (suc i) s
+shift_suc [] p i h = absurd (not-suc-le-zero h)
+shift_suc (x ∷ s) p zero h = refl
+shift_suc (x ∷ s) p (suc i) h = ap (λ (r : List ℕ). p ∷ r) (shift_suc s x i (le_of_suc-le-suc h))
+
+-- The same, as the code counts.
+pub shift_turn : (s : List ℕ) (p i : ℕ) → i < length s → set (take i (p ∷ s) ++ drop i s) i (get_or (p ∷ s) i 0) ≡ take (i + 1) (p ∷ s) ++ drop (i + 1) s
+shift_turn s p i h = rw add-one (shift_suc s p i h)
+
+-- What stands at a place that is not reached yet.
+pub shift_next : (s : List ℕ) (p i : ℕ) → i < length s → get_or (take i (p ∷ s) ++ drop i s) i 0 ≡ get_or s i 0
+shift_next [] p i h = absurd (not-suc-le-zero h)
+shift_next (x ∷ s) p zero h = refl
+shift_next (x ∷ s) p (suc i) h = shift_next s x i (le_of_suc-le-suc h)
+
 -- the total of a front that is one longer
 pub total_take_suc : (k : ℕ) (R : List ℕ) → total (take (suc k) R) ≡ total (take k R) + get_or R k 0
 total_take_suc zero [] = refl

@@ -11,13 +11,16 @@ ghost use Rattle.curves.specs.Curve.{CurvedAs, Paired, moved, bump, bumps, total
 use meaning::Refusal;
 use traces::find;
 
-// The first e places move one down, over place e, and p goes first.
+// The first e places move one down, over place e, and p goes first. No `copy_within`: the archive for C would ask for `memmove`.
+#[tactic(auto, using(crate::proofs::Lists::shift_turn, crate::proofs::Lists::shift_next))]
 fn shift(w: &mut [u32], e: usize, p: u32)
     requires { e < length w.old }
     ensures { w.new ≡ moved e p w.old }
 {
-    w.copy_within(..e, 1);
-    w[0] = p;
+    let mut carry = p;
+    for x in w[..=e].iter_mut() {
+        std::mem::swap(x, &mut carry);
+    }
 }
 
 // One request: a hit is counted at its depth, and p goes to the front.

@@ -1,16 +1,15 @@
 -- What is read off all entries and off all slots: the lowest free entry, the held pages, and the lowest free slot.
 use Prim.Native.Nat.{ℕ, zero, suc, ◌+◌, ◌≤◌, ◌<◌}
 use mathlib.Core.Path.{◌≡◌, refl, sym, ap, ap₂, subst, ◌∙◌}
-use mathlib.Core.Bool.{Bool, true, false, not, ◌&&◌, cond}
-use mathlib.Core.List.{List, ◌∷◌}
+use mathlib.Core.Bool.{Bool, true, false, not, ◌&&◌}
+use mathlib.Core.List.{List}
 use native.Mathlib.Omega.{arith}
-use native.Mathlib.Numerals.{add-one}
-use Rattle.std.proofs.Math.Nat.{zero-add, add-zero}
+use Rattle.std.proofs.Math.Nat.{zero-add}
 use lib.Dec.{eqb}
 use lib.ListN.{length}
 use Rattle.std.specs.Prelude.{Option, Some, None}
 use Rattle.std.specs.Bool.{MatchBool}
-use Rattle.std.specs.List.{AllWithin, HoldsAt, range_with_len, filter}
+use Rattle.std.specs.List.{AllWithin, HoldsAt, range_with_len}
 use Rattle.std.specs.Option.{MatchOption, unwrap_or}
 use Rattle.std.proofs.lemmas.List.FromFn.{length-range_with_len, get_or-range_with_len}
 use borrow.Author.Tests.{eq-eqb, ne_eqb}
@@ -108,28 +107,13 @@ slot_least {c = c} {r = r} ec l = record {
 
 -- ── The held pages ──
 
--- how many of the n numbers from a on pass the test
-count_range : (p : ℕ → Bool) (a n : ℕ) → tally a p + length (filter p (range_with_len a n)) ≡ tally (a + n) p
-unfolding tally one_if
-count_range p a zero = omega (arith, ap (λ (x : ℕ). tally x p) (add-zero a))
-count_range p a (suc n) = go (p a) refl (count_range p (a + 1) n ∙ ap (λ (x : ℕ). tally x p) (omega arith))
-  where
-    step : tally (a + 1) p ≡ tally a p + one_if (p a)
-    step = rw add-one refl
-
-    go : (b : Bool) → p a ≡ b → tally (a + 1) p + length (filter p (range_with_len (a + 1) n)) ≡ tally (a + suc n) p
-        → tally a p + length (cond b (a ∷ filter p (range_with_len (a + 1) n)) (filter p (range_with_len (a + 1) n))) ≡ tally (a + suc n) p
-    go true e more = omega (arith, more, step, ap one_if e)
-    go false e more = omega (arith, more, step, ap one_if e)
-
--- what `filter` and `count` over the numbers below n answer
-pub held_count : {ws : List ℕ} {n r : ℕ} → n ≡ E ws → r ≡ length (filter (λ i. is_held (word ws (cell_at i list_col))) (range_with_len 0 n)) → Says ws (Gives held r)
+-- what the walk over all entries counted
+pub held_all : {ws : List ℕ} {n k : ℕ} → n ≡ E ws → k ≡ tally n (λ i. is_held (word ws (cell_at i list_col))) → Says ws (Gives held k)
 unfolding held tally
-held_count {ws} {n} {r} en er = record {
+held_all {ws} {n} en ek = record {
   of = λ m R.
       let a : n ≡ entry_count m = en ∙ R.holds.at (top 2) (omega arith) in
-      let c = count_range (λ i. is_held (word ws (cell_at i list_col))) 0 n in
-      record { is = er ∙ sym (zero-add _) ∙ c ∙ ap (λ (x : ℕ). tally x (λ i. is_held (word ws (cell_at i list_col)))) (zero-add n ∙ a) ∙ alike (entry_count m) (λ i l. ap is_held (R.holds.at (cell list i) l)) };
+      record { is = ek ∙ ap (λ (x : ℕ). tally x (λ i. is_held (word ws (cell_at i list_col)))) a ∙ alike (entry_count m) (λ i l. ap is_held (R.holds.at (cell list i) l)) };
 }
   where
     alike : {f g : ℕ → Bool} (n : ℕ) → ((i : ℕ) → i < n → f i ≡ g i) → tally n f ≡ tally n g

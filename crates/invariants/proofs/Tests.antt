@@ -1,12 +1,13 @@
 -- Tests: what holds of every number below n, how many pass, and tests that are joined.
 use mathlib.Core.Path.{◌≡◌, refl, ap, sym, ◌∙◌}
 use mathlib.Core.Bool.{Bool, true, false, not, ◌&&◌}
-use Prim.Native.Nat.{ℕ, zero, suc, ◌<◌}
+use Prim.Native.Nat.{ℕ, zero, suc, ◌+◌, ◌<◌}
 use native.Mathlib.Nat.{not-suc-le-zero}
 use native.Mathlib.Omega.{arith}
+use native.Mathlib.Numerals.{add-one}
 use borrow.Author.Tests.{not-true, not-false}
 use Rattle.std.specs.Prelude.{if◌then◌else◌}
-use Rattle.meaning.specs.Base.{every, ◌⇒◌}
+use Rattle.meaning.specs.Base.{every, tally, one_if, ◌⇒◌}
 use Rattle.invariants.proofs.Lists.{split, no_true}
 use Rattle.invariants.proofs.Families.{not_so}
 
@@ -75,6 +76,16 @@ every_at zero f h i k = absurd (not-suc-le-zero k)
 every_at (suc n) f h i k = split i n
     (λ e t. ap f e ∙ and_right (every n f) (f n) h)
     (λ e t. every_at n f (and_left (every n f) (f n) h) i (omega (arith, e)))
+
+-- k below i pass, and i does: k + 1 below i + 1 do.
+pub tally_yes : (i k : ℕ) (f : ℕ → Bool) → k ≡ tally i f → f i ≡ true → k + 1 ≡ tally (i + 1) f
+unfolding tally one_if
+tally_yes i k f h e = rw (add-one i) (omega (arith, ap one_if e))
+
+-- k below i pass, and i does not: k below i + 1 do.
+pub tally_no : (i k : ℕ) (f : ℕ → Bool) → k ≡ tally i f → f i ≡ false → k ≡ tally (i + 1) f
+unfolding tally one_if
+tally_no i k f h e = rw (add-one i) (omega (arith, ap one_if e))
 
 -- ── what the code saw ──
 

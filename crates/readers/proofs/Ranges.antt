@@ -1,26 +1,23 @@
 -- What a method of a range of numbers said, over the numbers below n.
 use mathlib.Core.Path.{◌≡◌, refl, ap, ap₂, ◌∙◌}
-use mathlib.Core.Bool.{Bool, true, false, ◌&&◌, cond}
+use mathlib.Core.Bool.{Bool, true, false, ◌&&◌}
 use mathlib.Core.List.{List, [], ◌∷◌, ◌++◌}
 use Prim.Native.Nat.{ℕ, zero, suc, ◌+◌, ◌-◌}
 use native.Mathlib.Numerals.{unary_clauses}
 use native.Mathlib.Omega.{arith}
-use lib.ListN.{length}
 use denote.Param.Members.{Mut}
 use Rattle.std.specs.declared.option.Option.{Option}
 use Rattle.std.specs.declared.ops.Range.{Range}
 use Rattle.std.specs.Fn.{Called}
 use Rattle.std.specs.Iterator.{YieldsThen}
-use Rattle.std.specs.List.{FoldsTo, list_all, filter, range_with_len}
+use Rattle.std.specs.List.{FoldsTo, list_all, range_with_len}
 use Rattle.std.specs.Option.{MatchOption}
-use Rattle.std.proofs.Common.{length-append}
 use Rattle.std.proofs.Math.Bool.{and-true}
 use Rattle.std.proofs.iter.Yields.{nat_range_steps}
-use Rattle.std.proofs.lemmas.List.Elements.{filter-append}
 use Rattle.std.proofs.lemmas.List.Folds.{list_all-append}
 use Rattle.std.proofs.lemmas.Iterator.{YieldsList-from_range}
 use Rattle.std.proofs.lemmas.Iterator.Search.{all_from_yields_List}
-use Rattle.meaning.specs.Base.{every, tally, one_if}
+use Rattle.meaning.specs.Base.{every}
 
 -- one number more
 range_more : (a n j : ℕ) → a + n ≡ j → range_with_len a (suc n) ≡ range_with_len a n ++ (j ∷ [])
@@ -54,21 +51,3 @@ module _ (test : ℕ → Bool) {F : Type 0} {g : Mut F (ℕ × Unit {0}) Bool} {
   -- `all` of the numbers below n.
   pub every_below : (n : ℕ) → s ≡ record { start = 0; end = n } → r ≡ every n test
   every_below n e = let k : n - 0 ≡ n = omega arith in every_from 0 n n e k ∙ every_zero n test
-
--- one that passes, or none
-kept : (f : ℕ → Bool) (j : ℕ) → length (filter f (j ∷ [])) ≡ one_if (f j)
-unfolding one_if
-kept f j = go (f j)
-  where
-    go : (b : Bool) → length {A = ℕ} (cond b (j ∷ []) []) ≡ one_if b
-    go true = refl
-    go false = refl
-
--- How many of the numbers below n pass the test.
-pub tally_kept : (n : ℕ) (f : ℕ → Bool) → length (filter f (range_with_len 0 n)) ≡ tally n f
-unfolding tally
-tally_kept zero f = refl
-tally_kept (suc n) f =
-    let r = range_with_len 0 n in
-    ap (λ (l : List ℕ). length (filter f l)) (range_more 0 n n (omega arith)) ∙ ap length (filter-append f r (n ∷ []))
-    ∙ length-append (filter f r) (filter f (n ∷ [])) ∙ ap₂ ◌+◌ (tally_kept n f) (kept f n)

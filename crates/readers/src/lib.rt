@@ -50,11 +50,17 @@ impl Entries<'_> {
         cell(self.words, i, f)
     }
 
-    // How many entries are on list j.
+    // How many entries are on list j. By a `for`, as in `entries::held`.
     pub fn count_on(&self, j: u32) -> u32
         ensures { (result ≡ count self.now.words.now j) × (result ≤ 1024) }
     {
-        (0..self.len()).filter(|i| self.cell(*i, LIST) == j).count() as u32
+        let mut k = 0;
+        for i in 0..self.len() {
+            if self.cell(i, LIST) == j {
+                k += 1;
+            }
+        }
+        k
     }
 
     // Entry i is used.

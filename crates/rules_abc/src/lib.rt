@@ -38,13 +38,18 @@ pub fn rule_b(d: &Entries) -> bool
     word6_fits(settings_in(d.words), word(d.words, WORD6)) && word(d.words, END) == 0
 }
 
-// Entry i is free: NONE, 0, NONE, NONE, NONE, NONE, 0, 0.
+// Entry i is free: NONE, 0, NONE, NONE, NONE, NONE, 0, 0. By a `for`, which is unrolled as `all` is not.
 fn is_free(d: &Entries, i: u32) -> bool
     requires { i < E d.now.words.now }
     ensures { result ≡ is_free d.now.words.now i }
 {
     let free = [NONE, 0, NONE, NONE, NONE, NONE, 0, 0];
-    (0..8).all(|f| d.cell(i, f) == free[f])
+    for f in 0..8 {
+        if d.cell(i, f) != free[f] {
+            return false;
+        }
+    }
+    true
 }
 
 // Entry i holds a page or remembers one: page, list, last word and mark are as rule c asks.

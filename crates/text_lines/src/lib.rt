@@ -33,7 +33,8 @@ fn number(text: &[u8]) -> Option<(u32, &[u8])>
     }
 }
 
-// Reads a line: the key, a decimal and byte 10. Gives the value, and what stands after the line.
+// Reads a line: the key, a decimal and byte 10. Gives the value, and what stands after the line. Inlined, so that the key is known where it is compared.
+#[inline]
 #[tactic(auto, using(crate::proofs::Lines::line_is))]
 pub fn line<'a>(text: &'a [u8], key: &[u8]) -> Option<(u32, &'a [u8])>
     ensures { took_of result ≡ Text·line key.now text.now }

@@ -1,22 +1,27 @@
-use mathlib.Core.Path.{◌≡◌, ap, ◌∙◌}
-use Prim.Native.Nat.{ℕ}
-use native.Mathlib.Omega.{arith}
-use borrow.Author.Rules.{rules}
-use borrow.Author.Tests.{tests}
-use Rattle.std.proofs.lemmas.Iterator.{YieldsList-from_range}
-use Rattle.std.proofs.lemmas.Iterator.Consumers.{YieldsList-from_filter, count_from_yields_List}
-use Rattle.invariants.proofs.Numbers.{tally_le}
+use Rattle.std.proofs.Common.{◌≡◌, refl, sym, ap, ◌∙◌, ℕ, arith}
+use borrow.Author.Tests.{eq-eqb, ne_eqb}
 use Rattle.meaning.specs.Base.{tally}
-use Rattle.meaning.specs.Mem.{E}
-use Rattle.meaning.specs.Rules.{on, count}
-use Rattle.readers.proofs.Ranges.{tally_kept}
+use Rattle.meaning.specs.Rules.{on}
+use Rattle.invariants.proofs.Tests.{tally_yes, tally_no}
 use Rattle.readers.proofs.Entries.count_on.Goals as goal
+use Rattle.readers.proofs.Entries.count_on.Goals.{then-cell-j, else-cell-j}
+
+pub loop-i-init : goal.loop-i-init
+unfolding tally
+loop-i-init c = (refl, omega arith)
+
+pub loop-i-preserved : goal.loop-i-preserved
+loop-i-preserved c =
+    let at = c.loop-i in
+    let t = on c.args.self.now.words.now c.args.j in
+    elim c.if-cell-j.branch [
+      | then-cell-j w ↦ (w.k-is ∙ tally_yes at.i at.k t at.invariant.0 (eq-eqb _ _ (sym c.cell.ensures ∙ w.if-cell-j.true)), omega arith)
+      | else-cell-j w ↦ (w.k-is ∙ tally_no at.i at.k t at.invariant.0 (ne_eqb _ _ (λ q. w.if-cell-j.false (c.cell.ensures ∙ q))), omega arith)
+    ]
 
 pub returns : goal.returns
 returns c =
+    let at = c.loop-i in
     let t = on c.args.self.now.words.now c.args.j in
-    let n = c.len.result in
-    let e : c.count.result ≡ count c.args.self.now.words.now c.args.j =
-    count_from_yields_List _ _ c.count.ensures.ran (YieldsList-from_filter _ t (YieldsList-from_range 0 n n (cc) (omega arith)) c.filter.ensures.closure (λ x b q k. search (rules, tests)))
-    ∙ tally_kept n t ∙ ap (λ (m : ℕ). tally m t) c.len.ensures in
-    (e, omega (arith, tally_le (E c.args.self.now.words.now) t))
+    let e : at.i ≡ c.len-i-end.result = omega arith in
+    (at.invariant.0 ∙ ap (λ (m : ℕ). tally m t) (e ∙ c.len-i-end.ensures), omega arith)
