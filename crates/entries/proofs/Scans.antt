@@ -1,6 +1,6 @@
 -- What is read off all entries and off all slots: the lowest free entry, the held pages, and the lowest free slot.
-use Prim.Native.Nat.{ℕ, zero, suc, ◌+◌, ◌≤◌, ◌<◌}
-use mathlib.Core.Path.{◌≡◌, refl, sym, ap, ap₂, subst, ◌∙◌}
+use Prim.Native.Nat.{ℕ, ◌≤◌, ◌<◌}
+use mathlib.Core.Path.{◌≡◌, sym, ap, ap₂, subst, ◌∙◌}
 use mathlib.Core.Bool.{Bool, true, false, not, ◌&&◌}
 use mathlib.Core.List.{List}
 use native.Mathlib.Omega.{arith}
@@ -13,11 +13,13 @@ use Rattle.std.specs.List.{AllWithin, HoldsAt, range_with_len}
 use Rattle.std.specs.Option.{MatchOption, unwrap_or}
 use Rattle.std.proofs.lemmas.List.FromFn.{length-range_with_len, get_or-range_with_len}
 use borrow.Author.Tests.{eq-eqb, ne_eqb}
-use Rattle.meaning.specs.Base.{one_if, tally, first, some}
+use Rattle.meaning.specs.Base.{tally, first, some}
 use Rattle.meaning.specs.Layout.{is_held, cell_at, list_col}
 use Rattle.meaning.specs.Mem.{Mem, word, lowest, held, sits, taken, free_slot, E, capacity_in, capacity_of, entry_count}
+use Rattle.meaning.specs.Rules.{holds}
 use Rattle.invariants.specs.Places.{top, cell, list, slot, Repr, Says}
 use Rattle.invariants.proofs.Numbers.{first_at, some_hit, some_miss}
+use Rattle.invariants.proofs.Read.{held_tally, held_is}
 use Rattle.cells.specs.Told.{Gives, GivesOf}
 use Rattle.entries.specs.Written.{sits_at}
 
@@ -108,14 +110,5 @@ slot_least {c = c} {r = r} ec l = record {
 -- ── The held pages ──
 
 -- what the walk over all entries counted
-pub held_all : {ws : List ℕ} {n k : ℕ} → n ≡ E ws → k ≡ tally n (λ i. is_held (word ws (cell_at i list_col))) → Says ws (Gives held k)
-unfolding held tally
-held_all {ws} {n} en ek = record {
-  of = λ m R.
-      let a : n ≡ entry_count m = en ∙ R.holds.at (top 2) (omega arith) in
-      record { is = ek ∙ ap (λ (x : ℕ). tally x (λ i. is_held (word ws (cell_at i list_col)))) a ∙ alike (entry_count m) (λ i l. ap is_held (R.holds.at (cell list i) l)) };
-}
-  where
-    alike : {f g : ℕ → Bool} (n : ℕ) → ((i : ℕ) → i < n → f i ≡ g i) → tally n f ≡ tally n g
-    alike zero h = refl
-    alike (suc n) h = ap₂ (λ (x y : ℕ). x + y) (alike n (λ i l. h i (omega arith))) (ap one_if (h n (omega arith)))
+pub held_all : {ws : List ℕ} {n k : ℕ} → n ≡ E ws → k ≡ tally n (holds ws) → Says ws (Gives held k)
+held_all {ws} en ek = record { of = λ m R. record { is = ek ∙ ap (λ (x : ℕ). tally x (holds ws)) en ∙ sym (held_tally ws) ∙ held_is m ws R.holds } }

@@ -1,7 +1,7 @@
 use Rattle.std.proofs.Common.{◌≡◌, refl, sym, ap, ◌∙◌, ℕ, arith}
 use Rattle.meaning.specs.Base.{tally}
-use Rattle.meaning.specs.Layout.{is_held, cell_at, list_col}
-use Rattle.meaning.specs.Mem.{word}
+use Rattle.meaning.specs.Layout.{is_held}
+use Rattle.meaning.specs.Rules.{holds}
 use Rattle.invariants.proofs.Tests.{tally_yes, tally_no}
 use Rattle.cells.proofs.Bounds.{entry_room, few_le}
 use Rattle.entries.proofs.Scans.{held_all}
@@ -18,7 +18,7 @@ cell-requires c = (omega arith, entry_room c.requires c.word-n.ensures (omega ar
 pub loop-i-preserved : goal.loop-i-preserved
 loop-i-preserved c =
     let at = c.loop-i in
-    let t = λ (x : ℕ). is_held (word c.args.words.now (cell_at x list_col)) in
+    let t = holds c.args.words.now in
     let e = c.is_held.ensures ∙ ap is_held c.cell.ensures in
     elim c.if-is_held.branch [
       | then-is_held w ↦ (w.k-is ∙ tally_yes at.i at.k t at.invariant.0 (sym e ∙ w.if-is_held.true), omega arith)
@@ -28,7 +28,7 @@ loop-i-preserved c =
 pub returns-clause-says : goal.returns-clause-says
 returns-clause-says c =
     let at = c.loop-i in
-    let t = λ (x : ℕ). is_held (word c.args.words.now (cell_at x list_col)) in
+    let t = holds c.args.words.now in
     let e : at.i ≡ c.word-n.result = omega arith in
     held_all c.word-n.ensures (at.invariant.0 ∙ ap (λ (m : ℕ). tally m t) e)
 
